@@ -2,6 +2,7 @@
 
 use crate::standard_streams::tell_fault;
 use jb_host::HostPlace;
+use jb_marks::{Sight, Sights};
 use jb_recipe::{Place, PlaceFault, Stopped};
 use std::alloc::Global;
 use std::sync::Wait;
@@ -47,6 +48,20 @@ impl<R: Wait> TrustedPlace<'_, R> {
     }
 }
 
+impl<R: Wait> Sights for TrustedPlace<'_, R> {
+    ghost told = { λ place name sight. Unit {0} };
+
+    ghost ticked = { λ place tick. Unit {0} };
+
+    fn look(&self, name: &[u8]) -> Sight {
+        self.place.look(name)
+    }
+
+    fn tick(&self) -> i128 {
+        self.place.tick()
+    }
+}
+
 impl<R: Wait> Place for TrustedPlace<'_, R> {
     ghost gone = { λ place path. Unit {0} };
 
@@ -64,6 +79,10 @@ impl<R: Wait> Place for TrustedPlace<'_, R> {
 
     fn stamp(&self, target: &[u8]) -> Option<i128> {
         self.place.stamp(target)
+    }
+
+    fn pass_tick(&self, tick: i128) {
+        self.place.pass_tick(tick);
     }
 
     fn sync(&self, target: &[u8]) -> Result<(), PlaceFault> {

@@ -4,6 +4,7 @@ ghost use Rattle.dmk_messages.specs.Messages.{fault_text};
 
 use crate::fault::Fault;
 use st_disk::Which;
+use st_file::OpenFault;
 use std::fmt;
 
 /// What is said where soft edges make a cycle and are dropped.
@@ -26,6 +27,16 @@ fn named_side(fault: &Fault) -> Option<Which>
     }
 }
 
+/// The version of state files that the wide profile alone reads and writes.
+const WIDE_VERSION: u16 = 4;
+
+fn is_of_wide_state(fault: &Fault) -> bool {
+    match fault {
+        Fault::State(OpenFault::UnknownVersion(_, version)) => *version == WIDE_VERSION,
+        _ => false,
+    }
+}
+
 impl fmt::Display for Message<'_> {
     ghost use Rattle.dmk_messages.specs.Messages.{fault_text};
 
@@ -34,10 +45,15 @@ impl fmt::Display for Message<'_> {
     fn fmt<W: fmt::Write>(&self, f: &mut fmt::Formatter<W>) -> fmt::Result {
         let state = self.state;
         let fault = self.fault;
-        match named_side(fault) {
-            Some(Which::A) => write!(f, "{state}: {fault}"),
-            Some(Which::B) => write!(f, "{state}.2: {fault}"),
-            None => write!(f, "{fault}"),
+        let ending = match named_side(fault) {
+            Some(Which::A) => "",
+            Some(Which::B) => ".2",
+            None => return write!(f, "{fault}"),
+        };
+        write!(f, "{state}{ending}: {fault}")?;
+        if is_of_wide_state(fault) {
+            write!(f, "\ndmk: note: {state}{ending} was written under --posix")?;
         }
+        Ok(())
     }
 }

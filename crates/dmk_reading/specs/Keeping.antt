@@ -5,7 +5,7 @@ use Rattle.std.specs.Option.{option_map_or}
 use Rattle.mk_profile.specs.declared.profile.Profile.{Profile}
 use Rattle.mk_profile.specs.declared.profile.Profile.TheVariants.{Strict, Posix}
 use Rattle.st_records.specs.declared.version.Form.{Form}
-use Rattle.st_records.specs.declared.version.Form.TheVariants.{Plain}
+use Rattle.st_records.specs.declared.version.Form.TheVariants.{Plain, Marked}
 use Rattle.mk_reader.specs.declared.item.Item.{Item}
 use Rattle.mk_reader.specs.declared.item.Item.TheVariants as item
 use Rattle.mk_rule_lines.specs.Goals.{is_keep_state}
@@ -26,10 +26,11 @@ is_keep_item (item.Special special) = is_keep_state (Some special.name)
 abbrev pub keeps : (environment : List Variable) (items : List Item) → Bool
 keeps environment items = list_any (is_named (codes "KEEP_STATE")) environment || list_any is_keep_item items
 
--- the form of the records that are written where state is kept, and the newest that is read (own)
+-- the form of the records that are written where state is kept, and the newest that is read: in the wide profile the one that says which
+-- files a target was made of (own)
 abbrev pub kept_form : Profile → Form
 kept_form Strict = Plain
-kept_form Posix = Plain
+kept_form Posix = Marked
 
 -- the value of the first variable of the name; nothing where there is none
 abbrev pub value_in : (environment : List Variable) (name : List ℕ) → List ℕ

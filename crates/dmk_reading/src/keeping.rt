@@ -46,12 +46,14 @@ pub fn keeps_state(environment: &[Variable], items: &[Item]) -> bool
     has_variable(environment, b"KEEP_STATE") || has_keep_item(items)
 }
 
-/// The form of the records that are written where state is kept, and the newest that is read.
+/// The form of the records that are written where state is kept, and the newest that is read: in the wide profile they say which files
+/// a target was made of.
 pub fn kept_form(profile: Profile) -> Form
     ensures { result ≡ kept_form profile }
 {
     match profile {
-        Profile::Strict | Profile::Posix => Form::Plain,
+        Profile::Strict => Form::Plain,
+        Profile::Posix => Form::Marked,
     }
 }
 

@@ -1,5 +1,5 @@
 -- What a run leaves, by what its report says of the closed store.
-use Rattle.std.proofs.Common.{◌≡◌, ◌⊎◌, ℕ, zero, suc, Bool, true, false, List, [], ◌∷◌, map, Result, Ok, Err, IfOk, IsOk, IsTrue, Some, slice_get, true≢false, refl, sym, subst, inl, inr, arith}
+use Rattle.std.proofs.Common.{◌≡◌, ◌⊎◌, ℕ, zero, suc, Bool, true, false, List, [], ◌∷◌, map, Result, Ok, Err, IfOk, IsOk, IsTrue, Some, slice_get, true≢false, refl, sym, subst, inl, inr, arith, ◌∙◌}
 use Rattle.std.specs.List.{list_all}
 use Rattle.std.proofs.lemmas.List.Elements.{All-nil}
 use Rattle.std.proofs.lemmas.List.{length-map}
@@ -9,6 +9,7 @@ use Rattle.st_disk.specs.Moments.{Moments, now}
 use Rattle.st_records.specs.declared.record.Record.{Record}
 use Rattle.st_state.specs.State.{StateMap}
 use Rattle.st_records.specs.declared.version.Form.{Form}
+use Rattle.st_records.specs.declared.version.Form.TheVariants as forms
 use Rattle.st_recovery.specs.Stored.{AllRecoverIn}
 use Rattle.mk_nodes.specs.declared.graph.Graph.{Graph}
 use Rattle.mk_nodes.specs.declared.graph.Node.{Node}
@@ -88,9 +89,16 @@ well_told graph counting keeping m found (Err fault) well tells = tt
 
 -- and what bears out a status of 0
 pub borne_told : (graph : Graph) (counting keeping : Bool) (m : StateMap) (found told : Result Report RunFault) → IfOk told (λ r. (given : Report) × (found ≡ Ok given) × IsTold graph counting keeping m given r)
-    → IfOk told (λ r. r.status ≡ 0 → IsBorneOut counting graph r.ends.items)
+    → IfOk told (λ r. r.status ≡ 0 → IsBorneOut counting graph r.ends.items r.same.items)
 borne_told graph counting keeping m found (Ok r) (given, is, tells) = λ none. inr (tells.judged none)
 borne_told graph counting keeping m found (Err fault) tells = tt
+
+-- the nodes whose recipes left their files as they were are those of the run's
+pub same_told : (graph : Graph) (counting keeping : Bool) (m : StateMap) (form : Form) (found told : Result Report RunFault) → IfOk found (λ r. form ≡ forms.Plain → r.same.items ≡ [])
+    → IfOk told (λ r. (given : Report) × (found ≡ Ok given) × IsTold graph counting keeping m given r) → IfOk told (λ r. form ≡ forms.Plain → r.same.items ≡ [])
+same_told graph counting keeping m form found (Ok r) none (given, is, tells) = λ plain.
+    tells.same ∙ IfOk-at_ok (λ (g : Report). form ≡ forms.Plain → g.same.items ≡ []) is none plain
+same_told graph counting keeping m form found (Err fault) none tells = tt
 
 -- ---- a run in which no recipe is to be run
 
@@ -129,7 +137,7 @@ none_made form counting keeping graph m honest sides is recovers status comes tr
     made_with form graph counting keeping honest sides tried 0 status comes (up_to_date graph.nodes.items)
     (subst (AreTried graph (up_to_date graph.nodes.items)) (sym nothing) (nothing_tried graph))
     (length-map graph.nodes.items _)
-    (λ none. up_to_date_well graph.nodes.items) (λ none. inl is.listing)
+    (λ none. up_to_date_well graph.nodes.items) [] (λ plain. refl) (λ none. inl is.listing)
     (λ kept. record {
       told = [];
       receipts = [];

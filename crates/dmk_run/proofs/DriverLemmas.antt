@@ -15,6 +15,7 @@ use Rattle.st_disk.specs.declared.which.Which.{Which}
 use Rattle.st_disk.specs.declared.which.Which.TheVariants as which
 use Rattle.st_state.specs.State.{StateMap, state_code}
 use Rattle.st_records.specs.declared.version.Form.{Form}
+use Rattle.st_records.specs.declared.version.Form.TheVariants as forms
 use Rattle.st_recovery.specs.Recovers.{RecoversIn, recovered}
 use Rattle.st_recovery.specs.Stored.{AllRecoverIn}
 use Rattle.st_recovery.proofs.RecoversLemmas.{one_recovery_in}
@@ -115,13 +116,15 @@ made_at form graph sound sides ends before after implies is = record {
 -- so a run has made what it did that came to another status for names that nothing makes
 pub made_with : (form : Form) (graph : Graph) (counting keeping : Bool) (sound : Type 0) (sides : Sides) (tried : Tried) (before after : ℕ) → after ≡ with_unmade graph.unmade.items before →
     (ends : List End) → AreTried graph ends tried → length ends ≡ length graph.nodes.items → (before ≡ 0 → IsTrue (list_all ends_well ends)) →
-    (before ≡ 0 → IsBorneOut counting graph ends) → (keeping ≡ true → IsMade form graph sound sides before ends) → HasMade form graph counting keeping sound sides after tried
-made_with form graph counting keeping sound sides tried before after is ends are all well borne made =
+    (same : List Bool) → (form ≡ forms.Plain → same ≡ []) → (before ≡ 0 → IsBorneOut counting graph ends same) → (keeping ≡ true → IsMade form graph sound sides before ends) → HasMade form graph counting keeping sound sides after tried
+made_with form graph counting keeping sound sides tried before after is ends are all well same plain borne made =
     let implies : after ≡ 0 → before ≡ 0 = λ none. zero_with graph.unmade.items before (sym is ∙ none) in
     record {
       ended = record {
         ends = ends;
+        same = same;
         all = all;
+        plain = plain;
         unmade = λ other. none_with graph.unmade.items before (subst (λ s. s ≢ 2) is other);
         well = λ none. well (implies none);
         borne_out = λ none. borne (implies none);
@@ -134,15 +137,17 @@ made_with form graph counting keeping sound sides tried before after is ends are
 pub has_made : (form : Form) (graph : Graph) (counting keeping : Bool) (sound : Type 0) (sides : Sides) (tried : Tried) (found : Result Report RunFault) (got : Result ℕ Stop)
     → IfOk got (λ s. (r : Report) × (found ≡ Ok r) × (s ≡ with_unmade graph.unmade.items r.status) × AreTried graph r.ends.items tried)
     → IfOk found (λ r. length r.ends.items ≡ length graph.nodes.items)
-    → IfOk found (λ r. r.status ≡ 0 → IsTrue (list_all ends_well r.ends.items)) → IfOk found (λ r. r.status ≡ 0 → IsBorneOut counting graph r.ends.items)
+    → IfOk found (λ r. r.status ≡ 0 → IsTrue (list_all ends_well r.ends.items)) → IfOk found (λ r. form ≡ forms.Plain → r.same.items ≡ [])
+    → IfOk found (λ r. r.status ≡ 0 → IsBorneOut counting graph r.ends.items r.same.items)
     → IfOk found (λ r. keeping ≡ true → IsMade form graph sound sides r.status r.ends.items) → IfOk got (λ s. HasMade form graph counting keeping sound sides s tried)
-has_made form graph counting keeping sound sides tried found (Ok s) (r, is, same, are) all well borne made =
+has_made form graph counting keeping sound sides tried found (Ok s) (r, is, same, are) all well plain borne made =
     made_with form graph counting keeping sound sides tried r.status s same r.ends.items are
     (at_ok (λ r. length r.ends.items ≡ length graph.nodes.items) found r is all)
     (at_ok (λ r. r.status ≡ 0 → IsTrue (list_all ends_well r.ends.items)) found r is well)
-    (at_ok (λ r. r.status ≡ 0 → IsBorneOut counting graph r.ends.items) found r is borne)
+    r.same.items (at_ok (λ r. form ≡ forms.Plain → r.same.items ≡ []) found r is plain)
+    (at_ok (λ r. r.status ≡ 0 → IsBorneOut counting graph r.ends.items r.same.items) found r is borne)
     (at_ok (λ r. keeping ≡ true → IsMade form graph sound sides r.status r.ends.items) found r is made)
-has_made form graph counting keeping sound sides tried found (Err stop) is all well borne made = tt
+has_made form graph counting keeping sound sides tried found (Err stop) is all well plain borne made = tt
 
 module _ (profile : Profile) (definitions environment : List Variable) (targets : List (List ℕ)) (all goes_on : Bool) (before : Tried) (looks : List ℕ → Option FileLook) (tried : Tried) where
   -- so a graph of these items has
@@ -182,6 +187,8 @@ module _ (profile : Profile) (definitions environment : List Variable) (targets 
       made = record {
         ended = record {
           ends = run.made.ended.ends;
+          same = run.made.ended.same;
+          plain = run.made.ended.plain;
           all = run.made.ended.all;
           unmade = run.made.ended.unmade;
           well = run.made.ended.well;

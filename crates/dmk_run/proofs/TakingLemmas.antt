@@ -18,7 +18,7 @@ use Rattle.st_records.specs.declared.version.Form.{Form}
 use Rattle.st_records.specs.declared.record.Record.{Record}
 use Rattle.st_file.specs.Batch.{may_stand}
 use Rattle.dmk_reading.specs.Passing.{no_marks}
-use Rattle.dmk_run.specs.Taken.{done_of, Takes, is_taken, cannot_be_recorded, is_made, has_nothing_to_run, is_faulty, TakesAll, at_end, behind, AreTaken}
+use Rattle.dmk_run.specs.Taken.{IsDoneOf, Takes, is_taken, cannot_be_recorded, is_made, has_nothing_to_run, is_faulty, TakesAll, at_end, behind, AreTaken}
 
 -- the records so far: with those of the nodes that are left they are those of all
 abbrev pub TakenSoFar : (form : Form) (graph : Graph) (marks : List Bool) (i : ℕ) (taken : List Record) → Type 0
@@ -45,8 +45,8 @@ taken_all form graph marks i taken none same before =
 -- each record is good, and may stand in any batch
 good_first : {form : Form} {graph : Graph} {marks : List Bool} {n : ℕ} {remade : Bool} {note : Option Record} → Takes form graph marks n remade note →
     (rest : List Record) → AllByRecursion (IsGoodIn form) rest → AllByRecursion (IsGoodIn form) (option_to_list note ++ rest)
-good_first (is_taken told why lines commands let_be listed records good) rest goods = (good, goods)
-good_first (cannot_be_recorded told why lines commands let_be listed records bad) rest goods = goods
+good_first (is_taken told why lines commands note let_be listed records is good) rest goods = (good, goods)
+good_first (cannot_be_recorded told why lines commands note let_be listed records is bad) rest goods = goods
 good_first (is_made told passes) rest goods = goods
 good_first (has_nothing_to_run remade passes) rest goods = goods
 good_first (is_faulty f is) rest goods = goods
@@ -58,8 +58,8 @@ taken_good (behind {taken = taken} takes more) = good_first takes taken (taken_g
 
 stands_first : {form : Form} {graph : Graph} {marks : List Bool} {n : ℕ} {remade : Bool} {note : Option Record} → Takes form graph marks n remade note →
     (rest : List Record) → AllByRecursion (λ r. may_stand false r ≡ true) rest → AllByRecursion (λ r. may_stand false r ≡ true) (option_to_list note ++ rest)
-stands_first (is_taken told why lines commands let_be listed records good) rest stand = (refl, stand)
-stands_first (cannot_be_recorded told why lines commands let_be listed records bad) rest stand = stand
+stands_first (is_taken told why lines commands note let_be listed records (text, seen, is) good) rest stand = (subst (λ r. may_stand false r ≡ true) (sym is) refl, stand)
+stands_first (cannot_be_recorded told why lines commands note let_be listed records is bad) rest stand = stand
 stands_first (is_made told passes) rest stand = stand
 stands_first (has_nothing_to_run remade passes) rest stand = stand
 stands_first (is_faulty f is) rest stand = stand
@@ -89,13 +89,13 @@ found_made (inl (told, passes)) = is_made told passes
 found_made (inr (f, is)) = is_faulty f is
 
 pub found_taken : {form : Form} {graph : Graph} {marks : List Bool} {n : ℕ} {note : Record} (why : Why) (lines : List Line) → ((told : List Passage) × Passes false graph marks n false told) →
-    ((commands : List (List ℕ)) × Records lines commands × (note ≡ done_of form graph n commands)) → IsGoodIn form note →
+    ((commands : List (List ℕ)) × Records lines commands × IsDoneOf form graph n commands note) → IsGoodIn form note →
     Passes true graph marks n true (to_make (name_at graph.names n) why (commands_of graph n) lines ∷ []) → Takes form graph marks n false (Some note)
 found_taken {form} {graph} {marks} {n} why lines (told, let_be) (commands, records, is) good listed =
-    subst (λ r. Takes form graph marks n false (Some r)) (sym is) (is_taken told why lines commands let_be listed records (subst (IsGoodIn form) is good))
+    is_taken told why lines commands _ let_be listed records is good
 
 pub found_bad : {form : Form} {graph : Graph} {marks : List Bool} {n : ℕ} {note : Record} (why : Why) (lines : List Line) → ((told : List Passage) × Passes false graph marks n false told) →
-    ((commands : List (List ℕ)) × Records lines commands × (note ≡ done_of form graph n commands)) → (IsGoodIn form note → ⊥) →
+    ((commands : List (List ℕ)) × Records lines commands × IsDoneOf form graph n commands note) → (IsGoodIn form note → ⊥) →
     Passes true graph marks n true (to_make (name_at graph.names n) why (commands_of graph n) lines ∷ []) → Takes form graph marks n true None
 found_bad {form} {graph} {marks} {n} why lines (told, let_be) (commands, records, is) bad listed =
-    cannot_be_recorded told why lines commands let_be listed records (λ good. bad (subst (IsGoodIn form) (sym is) good))
+    cannot_be_recorded told why lines commands _ let_be listed records is bad

@@ -1,5 +1,5 @@
 -- What bears out that a run answers 0. Own.
-use Rattle.std.specs.Prelude.{◌≡◌, ◌⊎◌, ℕ, Bool, true, false, List, map, Some, slice_get}
+use Rattle.std.specs.Prelude.{◌≡◌, ◌⊎◌, ℕ, Bool, true, false, not, ◌&&◌, List, [], ◌∷◌, drop, get_or, Some, slice_get}
 use Rattle.mk_nodes.specs.declared.graph.Graph.{Graph}
 use Rattle.mk_plan.specs.Passing.{PassesUnlisted}
 use Rattle.bd_places.specs.declared.end.End.{End}
@@ -20,11 +20,16 @@ IsJudged keeping graph remade node end.UpToDate = PassesUnlisted keeping graph r
 IsJudged keeping graph remade node end.Remade = PassesUnlisted keeping graph remade node true
 IsJudged keeping graph remade node _ = Unit {0}
 
+-- which nodes count as remade: those that ended so, but for those whose recipe left its files as they were
+abbrev pub remade_by : (ends : List End) → (same : List Bool) → List Bool
+remade_by [] same = []
+remade_by (e ∷ ends) same = (counts_as_remade e && not (get_or same 0 false)) ∷ remade_by ends (drop 1 same)
+
 -- so is each node, where those are remade that ended so
-abbrev pub AreJudged : (keeping : Bool) → Graph → (ends : List End) → Type 0
-AreJudged keeping graph ends =
-    (node : ℕ) (end : End) → slice_get ends node ≡ Some end → IsJudged keeping graph (map counts_as_remade ends) node end
+abbrev pub AreJudged : (keeping : Bool) → Graph → (ends : List End) → (same : List Bool) → Type 0
+AreJudged keeping graph ends same =
+    (node : ℕ) (end : End) → slice_get ends node ≡ Some end → IsJudged keeping graph (remade_by ends same) node end
 
 -- a dry run lists no recipe, or each node that wasn't built is judged
-abbrev pub IsBorneOut : (keeping : Bool) → Graph → (ends : List End) → Type 0
-IsBorneOut keeping graph ends = ListsNone keeping graph ⊎ AreJudged keeping graph ends
+abbrev pub IsBorneOut : (keeping : Bool) → Graph → (ends : List End) → (same : List Bool) → Type 0
+IsBorneOut keeping graph ends same = ListsNone keeping graph ⊎ AreJudged keeping graph ends same

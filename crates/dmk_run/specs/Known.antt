@@ -29,4 +29,5 @@ pub record IsTold (graph : Graph) (counting keeping : Bool) (m : StateMap) (give
   pub ends : told.ends.items ≡ given.ends.items
   pub status : (told.status ≡ given.status) ⊎ ((given.status ≡ 0) × (told.status ≡ 1))
   pub known : keeping ≡ true → told.status ≡ 0 → AreKnownDone graph m
-  pub judged : told.status ≡ 0 → AreJudged counting graph told.ends.items
+  pub same : told.same.items ≡ given.same.items
+  pub judged : told.status ≡ 0 → AreJudged counting graph told.ends.items told.same.items

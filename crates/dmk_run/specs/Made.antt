@@ -11,6 +11,7 @@ use Rattle.st_disk.specs.declared.which.Which.{Which}
 use Rattle.st_records.specs.declared.record.Record.{Record}
 use Rattle.st_state.specs.State.{StateMap}
 use Rattle.st_records.specs.declared.version.Form.{Form}
+use Rattle.st_records.specs.declared.version.Form.TheVariants as forms
 use Rattle.st_recovery.specs.Stored.{AllRecoverIn}
 use Rattle.bd_places.specs.declared.end.End.{End}
 use Rattle.bd_places.specs.declared.end.End.TheVariants.{Built, Failed}
@@ -47,14 +48,17 @@ pub record IsMade (form : Form) (graph : Graph) (sound : Type 0) (sides : Sides)
   pub known : status ≡ 0 → AreKnownDone graph left
 
 -- so it is of some ends of a graph: each of its nodes has one, and at status 0 each is up to date or was made, and whatever wasn't
--- built needn't be, where what is recorded of targets counts or doesn't. Where no state is kept nothing is said of what the disk holds then.
+-- built needn't be, where what is recorded of targets counts or doesn't, and where nothing is remade for a recipe that left its files as
+-- they were, which is so of none where records have no marks. Where no state is kept nothing is said of what the disk holds then.
 -- At a status other than 2 each name has a file, or something makes it
 pub record HasEnded (form : Form) (graph : Graph) (counting keeping : Bool) (sound : Type 0) (sides : Sides) (status : ℕ) : Type 0 where
   pub ends : List End
+  pub same : List Bool
   pub all : length ends ≡ length graph.nodes.items
+  pub plain : form ≡ forms.Plain → same ≡ []
   pub unmade : status ≢ 2 → graph.unmade.items ≡ []
   pub well : status ≡ 0 → IsTrue (list_all ends_well ends)
-  pub borne_out : status ≡ 0 → IsBorneOut counting graph ends
+  pub borne_out : status ≡ 0 → IsBorneOut counting graph ends same
   pub made : keeping ≡ true → IsMade form graph sound sides status ends
 
 -- a name's recipe was run to its end

@@ -1,6 +1,6 @@
 -- Which targets of a graph are taken as they are, and what is then recorded of them. Own; that a target is left which has a file and
 -- no later prerequisite is what POSIX make says where nothing is recorded.
-use Rattle.std.specs.Prelude.{ℕ, Bool, true, false, List, [], ◌∷◌, ◌++◌, Option, Some, None, slice_set, option_to_list}
+use Rattle.std.specs.Prelude.{◌≡◌, ℕ, Bool, true, false, List, [], ◌∷◌, ◌++◌, Option, Some, None, slice_set, option_to_list}
 use Rattle.mk_graph.specs.Numbering.{name_at}
 use Rattle.mk_rule_lines.specs.declared.fault.TextFault.{TextFault}
 use Rattle.mk_recipe.specs.Line.{Records}
@@ -14,28 +14,30 @@ use Rattle.mk_plan.specs.declared.why.Why.{Why}
 use Rattle.st_records.specs.Limits.{IsGoodIn}
 use Rattle.st_records.specs.declared.version.Form.{Form}
 use Rattle.jb_recipe.specs.Noting.{said_in}
+use Rattle.jb_recipe.specs.Seen.{IsTextSeen}
 use Rattle.st_records.specs.declared.record.Record.{Record}
 use Rattle.st_records.specs.declared.record.Record.TheVariants as records
 use Rattle.dmk_reading.specs.Passing.{no_marks}
 
 -- the record that the recipe of node n was run to its end with these commands: it names the prerequisites that the makefile names
--- now, and no hidden ones
-abbrev pub done_of : Form → Graph → (n : ℕ) → (commands : List (List ℕ)) → Record
-done_of form graph n commands = records.Done (name_at graph.names n) commands [] (said_in form (explicit_of graph n) [])
+-- now, no hidden ones, and of the form that has marks those of the files as they are
+abbrev pub IsDoneOf : Form → Graph → (n : ℕ) → (commands : List (List ℕ)) → Record → Type 0
+IsDoneOf form graph n commands note =
+    (text : List ℕ) × IsTextSeen form graph n text × (note ≡ records.Done (name_at graph.names n) commands [] (said_in form (explicit_of graph n) text))
 
 -- what comes of node n, where the marks are those of the nodes before it that count as remade: whether it counts as remade, and the
 -- record with which it is taken
 pub data Takes (form : Form) (graph : Graph) (marks : List Bool) (n : ℕ) : (remade : Bool) → (note : Option Record) → Type 0 where
   -- by the times of files alone it isn't to be made, and the record has the commands with which it would be
-  is_taken : (told : List Passage) (why : Why) (lines : List Line) (commands : List (List ℕ)) →
+  is_taken : (told : List Passage) (why : Why) (lines : List Line) (commands : List (List ℕ)) (note : Record) →
       Passes false graph marks n false told →
       Passes true graph marks n true (to_make (name_at graph.names n) why (commands_of graph n) lines ∷ []) →
-      Records lines commands → IsGoodIn form (done_of form graph n commands) → Takes form graph marks n false (Some (done_of form graph n commands))
+      Records lines commands → IsDoneOf form graph n commands note → IsGoodIn form note → Takes form graph marks n false (Some note)
   -- so it is, but that record may not stand in a state
-  cannot_be_recorded : (told : List Passage) (why : Why) (lines : List Line) (commands : List (List ℕ)) →
+  cannot_be_recorded : (told : List Passage) (why : Why) (lines : List Line) (commands : List (List ℕ)) (note : Record) →
       Passes false graph marks n false told →
       Passes true graph marks n true (to_make (name_at graph.names n) why (commands_of graph n) lines ∷ []) →
-      Records lines commands → (IsGoodIn form (done_of form graph n commands) → ⊥) → Takes form graph marks n true None
+      Records lines commands → IsDoneOf form graph n commands note → (IsGoodIn form note → ⊥) → Takes form graph marks n true None
   -- it is to be made by the times of files too
   is_made : (told : List Passage) → Passes false graph marks n true told → Takes form graph marks n true None
   -- nothing is to be run for it: it has no recipe, or the state has it as up to date

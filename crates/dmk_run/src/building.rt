@@ -1,8 +1,9 @@
 //! The targets of a graph made over a store.
-ghost use Rattle.std.specs.Prelude.{◌≡◌, ◌⊎◌, ◌≤◌, true, false, length, Ok, Err, IfOk, IfErr, IsOk, IsTrue};
+ghost use Rattle.std.specs.Prelude.{◌≡◌, ◌⊎◌, ◌≤◌, true, false, [], length, Ok, Err, IfOk, IfErr, IsOk, IsTrue};
 ghost use Rattle.std.specs.List.{list_all};
 ghost use Rattle.st_disk.specs.Moments.{now};
 ghost use Rattle.st_recovery.specs.Stored.{AllRecoverIn};
+ghost use Rattle.st_records.specs.declared.version.Form.TheVariants as forms;
 ghost use Rattle.bd_flusher.specs.declared.fault.FlushFault.TheVariants as refusals;
 ghost use Rattle.jb_closing.specs.declared.fault.RunFault.TheVariants as run_faults;
 ghost use Rattle.jb_closing.specs.declared.report.Report.{Report as RunReport};
@@ -60,14 +61,15 @@ fn is_borne_out(
     keeps_state: bool,
     state: &State,
     ends: &[End],
+    same: &[bool],
 ) -> Result<bool, AllocError>
     ensures known { IfOk result (λ yes. yes ≡ true → keeps_state ≡ true → AreKnownDone graph.now state.now) }
-    ensures judged { IfOk result (λ yes. yes ≡ true → AreJudged counting graph.now ends.now) }
+    ensures judged { IfOk result (λ yes. yes ≡ true → AreJudged counting graph.now ends.now same.now) }
 {
     if keeps_state && !are_known_done(graph, state) {
         return Ok(false);
     }
-    are_judged(alloc, counting, graph, ends)
+    are_judged(alloc, counting, graph, ends, same)
 }
 
 /// A report whose status is 0 only where that is borne out.
@@ -81,11 +83,15 @@ fn checked(
 ) -> Result<Report, AllocError>
     ensures { IfOk result (IsTold graph.now counting keeps_state state.now report) }
 {
-    let Report { ends, status } = report;
-    if status == 0 && !is_borne_out(alloc, graph, counting, keeps_state, state, &ends)? {
-        return Ok(Report { ends, status: 1 });
+    let Report { ends, status, same } = report;
+    if status == 0 && !is_borne_out(alloc, graph, counting, keeps_state, state, &ends, &same)? {
+        return Ok(Report {
+            ends,
+            status: 1,
+            same,
+        });
     }
-    Ok(Report { ends, status })
+    Ok(Report { ends, status, same })
 }
 
 /// What is told of a run whose store is closed: no report of a dead store, and status 0 only where it is borne out.
@@ -165,7 +171,8 @@ where
     ensures status { IfOk result.found (λ r. r.status ≤ 2) }
     ensures well { IfOk result.found (λ r. r.status ≡ 0 → IsTrue (list_all ends_well r.ends.items)) }
     // No status of 0 is made up: a node that wasn't built needn't be.
-    ensures borne_out { IfOk result.found (λ r. r.status ≡ 0 → IsBorneOut conduct.counts_records graph.now r.ends.items) }
+    ensures borne_out { IfOk result.found (λ r. r.status ≡ 0 → IsBorneOut conduct.counts_records graph.now r.ends.items r.same.items) }
+    ensures same { IfOk result.found (λ r. conduct.form ≡ forms.Plain → r.same.items ≡ []) }
     ensures made { IfOk result.found (λ r. conduct.keeps_state ≡ true
         → IsMade conduct.form graph.now D.honest (now (D.moments result.store.log.disk)) r.status r.ends.items) }
     // A store that is handed in dead is told as one, and comes back as it was.

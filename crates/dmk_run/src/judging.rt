@@ -1,7 +1,7 @@
 //! Whether the ends of a run are borne out: each node that wasn't built is judged again, by how the others ended.
-ghost use Rattle.std.specs.Prelude.{◌≡◌, ◌<◌, true, length, map, IfOk};
+ghost use Rattle.std.specs.Prelude.{◌≡◌, ◌<◌, true, false, length, drop, get_or, IfOk};
 ghost use Rattle.mk_plan.specs.Passing.{PassesUnlisted};
-ghost use Rattle.dmk_run.specs.Judged.{counts_as_remade, IsJudged, AreJudged};
+ghost use Rattle.dmk_run.specs.Judged.{counts_as_remade, remade_by, IsJudged, AreJudged};
 
 use bd_places::End;
 use mk_nodes::Graph;
@@ -14,12 +14,27 @@ fn counts_as_remade(end: End) -> bool
     matches!(end, End::Remade | End::Built)
 }
 
-fn marks_of(alloc: Global, ends: &[End]) -> Result<Vec<bool>, AllocError>
-    ensures { IfOk result (λ marks. marks.items ≡ map counts_as_remade ends.now) }
+/// The first of these, false where there is none, and those behind it.
+fn first_same(same: &[bool]) -> (bool, &[bool])
+    ensures first { result.0 ≡ get_or same.now 0 false }
+    ensures rest { result.1.now ≡ drop 1 same.now }
+{
+    match same.split_first() {
+        Some((first, rest)) => (*first, rest),
+        None => (false, same),
+    }
+}
+
+/// Which nodes count as remade, by how they ended and whose recipe left its files as they were.
+fn marks_of(alloc: Global, ends: &[End], same: &[bool]) -> Result<Vec<bool>, AllocError>
+    ensures { IfOk result (λ marks. marks.items ≡ remade_by ends.now same.now) }
 {
     let mut marks = Vec::with_capacity(alloc, ends.len())?;
+    let mut left = same;
     for end in ends {
-        marks.push(counts_as_remade(*end))?;
+        let (is_same, rest) = first_same(left);
+        marks.push(counts_as_remade(*end) && !is_same)?;
+        left = rest;
     }
     Ok(marks)
 }
@@ -63,16 +78,18 @@ fn is_judged(
     }
 }
 
-/// Whether each node that wasn't built is judged so, where those count as remade that ended as remade or built.
+/// Whether each node that wasn't built is judged so, where those count as remade that ended as remade or built, but for those whose
+/// recipe left its files as they were.
 pub(crate) fn are_judged(
     alloc: Global,
     keeping: bool,
     graph: &Graph,
     ends: &[End],
+    same: &[bool],
 ) -> Result<bool, AllocError>
-    ensures { IfOk result (λ yes. yes ≡ true → AreJudged keeping graph.now ends.now) }
+    ensures { IfOk result (λ yes. yes ≡ true → AreJudged keeping graph.now ends.now same.now) }
 {
-    let marks = marks_of(alloc, ends)?;
+    let marks = marks_of(alloc, ends, same)?;
     for (node, end) in ends.iter().enumerate() {
         if !is_judged(alloc, keeping, graph, &marks, node, *end)? {
             return Ok(false);

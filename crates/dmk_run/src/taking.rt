@@ -10,12 +10,12 @@ ghost use Rattle.mk_plan.specs.declared.fault.RecipeFault.TheVariants as faults;
 ghost use Rattle.mk_plan.specs.declared.why.Why.{Why as Cause};
 ghost use Rattle.st_records.specs.Limits.{IsGoodIn, SaysExplicitIn};
 ghost use Rattle.st_records.specs.Parts.{status_of};
-ghost use Rattle.dmk_run.specs.Taken.{done_of, Takes, AreTaken};
+ghost use Rattle.dmk_run.specs.Taken.{IsDoneOf, Takes, AreTaken};
 
 use crate::stop::Stop;
 use byte_strings::{ByteString, ByteStrings};
 use dmk_messages::Fault;
-use jb_recipe::{Place, PlaceFault, is_writable, said_in};
+use jb_recipe::{Place, PlaceFault, is_writable, said_in, text_seen};
 use mk_nodes::Graph;
 use mk_plan::{Passed, RecipeFault, explicit_of, name_of, pass};
 use mk_recipe::{Line, recorded};
@@ -45,7 +45,7 @@ fn writable(form: Form, note: Record) -> Option<Record>
     }
 }
 
-/// The record that a node's recipe was run to its end with these commands.
+/// The record that a node's recipe was run to its end with these commands, and that its files are those of now.
 fn done_of(
     alloc: Global,
     form: Form,
@@ -54,13 +54,14 @@ fn done_of(
     commands: ByteStrings,
 ) -> Result<Record, AllocError>
     requires { node < length graph.now.nodes.items }
-    ensures { IfOk result (λ note. note ≡ done_of form graph.now node commands) }
+    ensures { IfOk result (IsDoneOf form graph.now node commands) }
 {
+    let marks = text_seen(alloc, form, graph, node)?;
     Ok(Record::Done {
         target: ByteString::from_slice(alloc, name_of(graph, node))?,
         commands,
         hidden: ByteStrings::empty(alloc),
-        explicit: said_in(alloc, form, explicit_of(alloc, graph, node)?),
+        explicit: said_in(form, explicit_of(alloc, graph, node)?, marks),
     })
 }
 
@@ -73,7 +74,7 @@ fn done_with(
     lines: &[Line],
 ) -> Result<Record, AllocError>
     requires { node < length graph.now.nodes.items }
-    ensures { IfOk result (λ note. (commands : List (List ℕ)) × Records lines.now commands × (note ≡ done_of form graph.now node commands)) }
+    ensures { IfOk result (λ note. (commands : List (List ℕ)) × Records lines.now commands × IsDoneOf form graph.now node commands note) }
 {
     let commands = recorded(alloc, lines)?;
     done_of(alloc, form, graph, node, commands)

@@ -11,6 +11,9 @@ use bd_places::End;
 pub struct Report {
     pub ends: Vec<End>,
     pub status: u8,
+    /// Of each node whether its recipe left all that it makes as it was, so that what stands on it isn't remade for it. Behind the last
+    /// one there is none: an empty list has none at all.
+    pub same: Vec<bool>,
 }
 
 fn ends_well(end: End) -> bool
@@ -27,9 +30,10 @@ fn all_end_well(ends: &[End]) -> bool
 
 impl Report {
     /// The report of a run whose workers came to this status. A node that failed or was abandoned makes it at least 1.
-    pub fn of(ends: Vec<End>, status: u8) -> Report
+    pub fn of(ends: Vec<End>, status: u8, same: Vec<bool>) -> Report
         requires { status ≤ 2 }
         ensures ends { result.ends ≡ ends }
+        ensures same { result.same ≡ same }
         ensures least { status ≤ result.status }
         ensures status { result.status ≤ 2 }
         ensures well { result.status ≡ 0 → IsTrue (list_all ends_well result.ends.items) }
@@ -39,6 +43,6 @@ impl Report {
         } else {
             status.max(1)
         };
-        Report { ends, status }
+        Report { ends, status, same }
     }
 }

@@ -155,7 +155,7 @@ fn sync_all_files(host: HostRuntime) -> io::Result<()> {
 /// Reports and targets in the folder in which dmk runs. A name that isn't UTF-8 has no file here.
 #[derive(Drop)]
 pub struct HostPlace<'a, R: Wait> {
-    host: HostRuntime,
+    pub(crate) host: HostRuntime,
     folders: SharedSyncs<'a, R>,
     stops: &'a Stops<'a, R>,
 }
@@ -278,6 +278,10 @@ impl<R: Wait> Place for HostPlace<'_, R> {
             return None;
         }
         Some(i128::from(found.mtime()) * 1_000_000_000 + i128::from(found.mtime_nsec()))
+    }
+
+    fn pass_tick(&self, tick: i128) {
+        self.wait_for_tick(tick);
     }
 
     fn sync(&self, target: &[u8]) -> Result<(), PlaceFault> {

@@ -7,6 +7,7 @@ mod host_place;
 mod laws;
 mod shared_syncs;
 mod shell;
+mod sights;
 mod stops;
 mod surroundings;
 mod writes;

@@ -1,6 +1,7 @@
 -- What is looked at between a target's 'begun' and the first line of its recipe. Own.
-use Rattle.std.specs.Prelude.{◌≡◌, ℕ, ℤ, Bool, true, false, List, ◌∷◌, Option, Some, None, IsSomeAnd, option_to_list}
+use Rattle.std.specs.Prelude.{◌≡◌, ◌&&◌, ℕ, ℤ, Bool, true, false, List, ◌∷◌, Option, Some, None, IsSomeAnd, option_to_list}
 use Rattle.std.specs.Option.{option_copied}
+use Rattle.std.specs.List.{list_all}
 use Rattle.st_marks.specs.declared.mark.Mark.{Mark}
 use Rattle.st_marks.specs.declared.mark.Mark.TheVariants as mark
 use Rattle.jb_marks.specs.declared.before.Before.{Before}
@@ -49,3 +50,22 @@ pub record IsBefore (told : List ℕ → Sight → Type 0) (said : List ℕ → 
   pub source : EachWith (IsTaken told said before.tick) (source_names names) (option_to_list before.source)
   pub explicit : EachWith (IsTaken told said before.tick) names.explicit.now before.explicit.items
   pub hidden : EachWith (IsKnown told said before.tick) names.recorded.now before.hidden.items
+
+-- ---- which looks tell
+
+abbrev pub is_known : Mark → Bool
+is_known mark.Unknown = false
+is_known mark.NoFile = true
+is_known mark.Other = true
+is_known (mark.File stamp) = true
+is_known (mark.Own stamp) = true
+
+abbrev pub is_known_or_left : Option Mark → Bool
+is_known_or_left None = true
+is_known_or_left (Some m) = is_known m
+
+-- each mark that was taken is known
+abbrev pub is_sure : Before → Bool
+is_sure before =
+    list_all is_known (option_to_list before.source)
+    && (list_all is_known before.explicit.items && list_all (λ k. is_known_or_left k.mark) before.hidden.items)

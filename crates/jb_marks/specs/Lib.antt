@@ -4,6 +4,10 @@ pub mod Single
 pub mod Each
 -- Before: what is looked at before a recipe.
 pub mod Before
+-- Recorded: what an entry has of its hidden prerequisites.
+pub mod Recorded
+-- Sights: the text of what looks told.
+pub mod Sights
 -- Done: the marks of a 'done'.
 pub mod Done
 -- Same: files that a recipe left as they were.

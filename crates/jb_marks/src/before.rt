@@ -1,7 +1,8 @@
 //! What is looked at between a target's 'begun' and the first line of its recipe.
 ghost use Rattle.std.specs.Prelude.{◌≡◌, ℕ, ◌∷◌, IfOk, option_to_list};
 ghost use Rattle.std.specs.Option.{option_copied};
-ghost use Rattle.jb_marks.specs.Before.{IsBefore, IsKnown, IsTaken, IsTakenUnlessOpen, is_open, made_names, source_names};
+ghost use Rattle.std.specs.List.{list_all};
+ghost use Rattle.jb_marks.specs.Before.{IsBefore, IsKnown, IsTaken, IsTakenUnlessOpen, is_known, is_known_or_left, is_open, is_sure, made_names, source_names};
 ghost use Rattle.jb_marks.specs.Each.{EachWith};
 
 use crate::earlier::Earlier;
@@ -127,7 +128,47 @@ fn take_hidden<P: Sights, E: Earlier>(
     Ok(known)
 }
 
+fn is_known(mark: &Mark) -> bool
+    ensures { result ≡ is_known mark.now }
+{
+    !matches!(mark, Mark::Unknown)
+}
+
+/// Whether a hidden prerequisite has a mark that tells of a file, or none yet.
+fn is_known_or_left(known: &Known) -> bool
+    ensures { result ≡ is_known_or_left known.now.mark }
+{
+    match &known.mark {
+        Some(mark) => is_known(mark),
+        None => true,
+    }
+}
+
+fn are_known(marks: &[Mark]) -> bool
+    ensures { result ≡ list_all is_known marks.now }
+{
+    marks.iter().all(|mark| is_known(mark))
+}
+
+fn are_known_or_left(hidden: &[Known]) -> bool
+    ensures { result ≡ list_all (λ k. is_known_or_left k.mark) hidden.now }
+{
+    hidden.iter().all(|known| is_known_or_left(known))
+}
+
 impl Before {
+    /// Whether each look tells a later one from it. Where one doesn't, its file was changed a moment before.
+    pub fn is_sure(&self) -> bool
+        ensures { result ≡ is_sure self.now }
+    {
+        if let Some(mark) = &self.source {
+            if !is_known(mark) {
+                return false;
+            }
+        }
+        are_known(self.explicit.as_slice()) && are_known_or_left(self.hidden.as_slice())
+    }
+
     /// Looks at what a recipe makes and is made of. To be called once the target's 'begun' is on the disk, and before the first line is run.
     pub fn look<P: Sights, E: Earlier>(
         alloc: Global,

@@ -25,7 +25,7 @@ pub struct Left {
     pub text: Option<Vec<u8>>,
 }
 
-fn file_marks(alloc: Global, sights: &[Sight]) -> Result<Vec<Mark>, AllocError>
+pub(crate) fn file_marks(alloc: Global, sights: &[Sight]) -> Result<Vec<Mark>, AllocError>
     ensures { IfOk result (λ marks. EachWith IsMarkOf sights.now marks.items) }
 {
     let mut marks = Vec::new(alloc);

@@ -2,7 +2,11 @@
 ghost use Rattle.std.specs.Prelude.{◌≡◌, true, false, ◌↔◌, ◌<◌, ◌^◌, ℕ, List, IsTrue, IfOk, IfSome, IfNone, length};
 ghost use Rattle.std.specs.Option.{option_copied};
 ghost use Rattle.st_marks.specs.Encoding.{FitsSource, IsText};
+ghost use Rattle.jb_marks.specs.Sights.{IsTextOfSights};
 
+use crate::done::file_marks;
+use crate::sights::Sight;
+use byte_strings::ByteString;
 use st_marks::{Mark, write_marks};
 use std::alloc::{AllocError, Global};
 
@@ -31,4 +35,20 @@ pub(crate) fn text_of(
         return Ok(None);
     }
     Ok(Some(write_marks(alloc, source, marks)?))
+}
+
+/// The text of the marks of what looks told, of a target that has this source or none: first of what its recipe makes, then of its
+/// source, and of its explicit and its hidden prerequisites. No bytes where no text can say them.
+pub fn text_of_sights(
+    alloc: Global,
+    source: Option<&[u8]>,
+    sights: &[Sight],
+) -> Result<ByteString, AllocError>
+    ensures { IfOk result (λ text. IsTextOfSights (option_copied source.entry) sights.now text) }
+{
+    let marks = file_marks(alloc, sights)?;
+    let Some(text) = text_of(alloc, source, marks.as_slice())? else {
+        return Ok(ByteString::new(Vec::new(alloc)));
+    };
+    Ok(ByteString::new(text))
 }

@@ -1,5 +1,7 @@
 pub mod Environment
+pub mod Files
 pub mod LongLine
 pub mod Noting
 pub mod Running
+pub mod Seen
 pub mod Silence

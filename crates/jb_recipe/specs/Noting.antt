@@ -1,5 +1,5 @@
 -- What is noted of a recipe. Own.
-use Rattle.std.specs.Prelude.{◌≡◌, ◌⊎◌, ℕ, Bool, ◌&&◌, not, is_some, List, [], map}
+use Rattle.std.specs.Prelude.{◌≡◌, ◌⊎◌, ℕ, Bool, ◌&&◌, not, is_some, List, map}
 use Rattle.mk_graph.specs.Edges.{row}
 use Rattle.mk_graph.specs.Numbering.{name_at}
 use Rattle.mk_rule_lines.specs.Explicit.{is_phony}
@@ -32,8 +32,10 @@ said_in forms.Plain names marks = Known names
 said_in forms.Marked names marks = Marked names marks
 
 -- the record of a recipe's end, by what came of it. A recipe that failed is 'failed' with its status. One that passed is 'done' with
--- these commands and explicit names, or 'failed' with status 256 where its report or its target's file can't be taken
-abbrev pub IsEndOf : Form → Outcome → (target : List ℕ) → (commands explicit : List (List ℕ)) → Record → Type 0
-IsEndOf form (outcomes.Failed status) target commands explicit note = note ≡ records.Failed target status
-IsEndOf form outcomes.Done target commands explicit note =
-    (note ≡ records.Failed target 256) ⊎ ((hidden : List (List ℕ)) × (note ≡ records.Done target commands hidden (said_in form explicit [])))
+-- these commands and explicit names and such marks, or 'failed' with status 256 where its report or its target's file can't be taken
+abbrev pub IsEndOf : Form → Outcome → (target : List ℕ) → (commands explicit : List (List ℕ)) → (marked : (hidden : List (List ℕ)) → (text : List ℕ) → Type 0)
+    → Record → Type 0
+IsEndOf form (outcomes.Failed status) target commands explicit marked note = note ≡ records.Failed target status
+IsEndOf form outcomes.Done target commands explicit marked note =
+    (note ≡ records.Failed target 256)
+    ⊎ ((hidden : List (List ℕ)) × (text : List ℕ) × marked hidden text × (note ≡ records.Done target commands hidden (said_in form explicit text)))

@@ -3,6 +3,9 @@
 
 mod conduct;
 mod elsewhere;
+mod end_note;
+mod files;
+mod looking;
 mod not_done;
 mod noting;
 mod place;
@@ -10,19 +13,22 @@ mod recipe_run;
 mod reporting;
 mod said;
 mod say;
+mod seen;
 mod silence;
 mod stopped;
 mod too_long;
 mod variables;
 
 pub use conduct::Conduct;
+pub use end_note::{EndNote, Last};
+pub use files::Files;
 pub use not_done::NotDone;
 pub use noting::{Plan, is_writable};
 pub use place::{Place, PlaceFault};
 pub use recipe_run::{Ran, Spoken, leave_recipe, run_recipe};
-pub use reporting::{EndNote, Last};
 pub use said::said_in;
 pub use say::{News, Say, Step};
+pub use seen::text_seen;
 pub use stopped::{Signal, Stopped};
 pub use too_long::long_line;
 pub use variables::{Makeflags, environment};

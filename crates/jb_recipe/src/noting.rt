@@ -4,7 +4,8 @@ ghost use Rattle.std.proofs.Props.{props};
 ghost use Rattle.mk_graph.specs.Numbering.{name_at};
 ghost use Rattle.mk_recipe.specs.Line.{Records};
 ghost use Rattle.mk_rule_lines.specs.Marks.{has_mark};
-ghost use Rattle.mk_plan.specs.Nodes.{explicit_of, made_beside};
+ghost use Rattle.mk_seen.specs.Marks.{source_name};
+ghost use Rattle.mk_seen.specs.Nodes.{explicit_of, made_beside};
 ghost use Rattle.mk_plan.specs.Parts.{language_of};
 ghost use Rattle.mk_plan.specs.Passage.{to_make, commands_of};
 ghost use Rattle.mk_plan.specs.Telling.{lines_about};
@@ -12,18 +13,20 @@ ghost use Rattle.st_records.specs.Limits.{IsGoodIn, IsWithinIn, SaysExplicitIn};
 ghost use Rattle.st_records.specs.Parts.{status_of};
 ghost use Rattle.st_records.specs.declared.record.Record.TheVariants as records;
 ghost use Rattle.jb_recipe.specs.Environment.{environment, report_path, last_value, NamesReport};
+ghost use Rattle.jb_recipe.specs.Files.{recorded_of};
 ghost use Rattle.jb_recipe.specs.Noting.{known_of, removes};
 ghost use Rattle.jb_recipe.specs.Silence.{as_run};
 
 use crate::said::said_in;
 use crate::silence::as_run;
-use crate::{Conduct, environment};
+use crate::{Conduct, Files, environment};
 use bd_lists::{Recipe, Variable};
 use byte_strings::{ByteString, ByteStrings};
 use mk_nodes::Graph;
-use mk_plan::{Why, explicit_of, made_beside, why_lines};
+use mk_plan::{Why, why_lines};
 use mk_profile::Profile;
 use mk_recipe::{Line, recorded};
+use mk_seen::name_of;
 use st_records::{Form, Record};
 use std::alloc::{AllocError, Global};
 
@@ -61,9 +64,7 @@ pub struct Plan {
     pub begun: Record,
     pub recipe: Recipe,
     pub commands: ByteStrings,
-    pub explicit: ByteStrings,
-    /// What the recipe makes beside the target.
-    pub others: ByteStrings,
+    pub files: Files,
     /// The names of its source and its explicit prerequisites: a report that names them says nothing new.
     pub known: ByteStrings,
     pub report: Option<ByteString>,
@@ -74,16 +75,6 @@ pub struct Plan {
     ghost within: { IsWithinIn form begun },
     ghost own: { begun ≡ records.Begun recipe.target },
     ghost named: { IfSome report (λ path. last_value (codes "SUNPRO_DEPENDENCIES") [] recipe.env.items ≡ path ++ 32 ∷ recipe.target) } by { Prim.hlevel props },
-}
-
-fn name_of(graph: &Graph, node: usize) -> &[u8]
-    ensures { result.now ≡ name_at graph.now.names node }
-{
-    if node < graph.names.len() {
-        graph.names.name(node)
-    } else {
-        &[]
-    }
 }
 
 // The names of a node's source and of its explicit prerequisites.
@@ -98,7 +89,7 @@ fn known_of(alloc: Global, graph: &Graph, node: usize) -> Result<ByteStrings, Al
     Ok(names)
 }
 
-// Whether a 'done' without hidden names may stand in the state.
+// Whether a 'done' without hidden names and marks may stand in the state.
 fn can_be_done(
     alloc: Global,
     form: Form,
@@ -110,7 +101,11 @@ fn can_be_done(
         target: target.copy(alloc)?,
         commands: commands.copy(alloc)?,
         hidden: ByteStrings::empty(alloc),
-        explicit: said_in(alloc, form, explicit.copy(alloc)?),
+        explicit: said_in(
+            form,
+            explicit.copy(alloc)?,
+            ByteString::new(Vec::new(alloc)),
+        ),
     };
     Ok(is_writable(form, &note))
 }
@@ -120,8 +115,7 @@ fn can_be_done(
 struct Noted {
     target: ByteString,
     commands: ByteStrings,
-    explicit: ByteStrings,
-    others: ByteStrings,
+    files: Files,
     known: ByteStrings,
 }
 
@@ -130,15 +124,16 @@ impl Noted {
         requires { number < length graph.now.nodes.items }
         ensures target { IfOk result (λ noted. noted.target ≡ name_at graph.now.names number) }
         ensures commands { IfOk result (λ noted. Records lines.now noted.commands) }
-        ensures explicit { IfOk result (λ noted. noted.explicit ≡ explicit_of graph.now number) }
-        ensures others { IfOk result (λ noted. noted.others ≡ made_beside graph.now number) }
+        ensures others { IfOk result (λ noted. noted.files.others ≡ made_beside graph.now number) }
+        ensures source { IfOk result (λ noted. noted.files.source ≡ source_name graph.now number) }
+        ensures explicit { IfOk result (λ noted. noted.files.explicit ≡ explicit_of graph.now number) }
+        ensures recorded { IfOk result (λ noted. noted.files.recorded.items ≡ recorded_of graph.now number) }
         ensures known { IfOk result (λ noted. noted.known ≡ known_of graph.now number) }
     {
         Ok(Noted {
             target: ByteString::from_slice(alloc, graph.names.name(number))?,
             commands: recorded(alloc, lines)?,
-            explicit: explicit_of(alloc, graph, number)?,
-            others: made_beside(alloc, graph, number)?,
+            files: Files::of(alloc, graph, number)?,
             known: known_of(alloc, graph, number)?,
         })
     }
@@ -148,7 +143,13 @@ impl Noted {
         ensures within { IfOk result (λ begun. IfSome begun (λ note. IsWithinIn form note)) }
         ensures own { IfOk result (λ begun. IfSome begun (λ note. note ≡ records.Begun self.now.target)) }
     {
-        if !can_be_done(alloc, form, &self.target, &self.commands, &self.explicit)? {
+        if !can_be_done(
+            alloc,
+            form,
+            &self.target,
+            &self.commands,
+            &self.files.explicit,
+        )? {
             return Ok(None);
         }
         let target = self.target.copy(alloc)?;
@@ -198,8 +199,10 @@ impl Plan {
         ensures lines { IfOk result (λ plan. IfSome plan (λ p. p.recipe.lines.items
             ≡ as_run (conduct.now.prints_no_lines || has_mark graph.now.settings.silent (name_at graph.now.names number)) lines.items)) }
         ensures commands { IfOk result (λ plan. IfSome plan (λ p. Records lines.items p.commands)) }
-        ensures explicit { IfOk result (λ plan. IfSome plan (λ p. p.explicit ≡ explicit_of graph.now number)) }
-        ensures others { IfOk result (λ plan. IfSome plan (λ p. p.others ≡ made_beside graph.now number)) }
+        ensures others { IfOk result (λ plan. IfSome plan (λ p. p.files.others ≡ made_beside graph.now number)) }
+        ensures source { IfOk result (λ plan. IfSome plan (λ p. p.files.source ≡ source_name graph.now number)) }
+        ensures explicit { IfOk result (λ plan. IfSome plan (λ p. p.files.explicit ≡ explicit_of graph.now number)) }
+        ensures recorded { IfOk result (λ plan. IfSome plan (λ p. p.files.recorded.items ≡ recorded_of graph.now number)) }
         ensures known { IfOk result (λ plan. IfSome plan (λ p. p.known ≡ known_of graph.now number)) }
         ensures report { IfOk result (λ plan. IfSome plan (λ p. p.report
             ≡ report_path conduct.now.keeps_state conduct.now.state_name number)) }
@@ -233,8 +236,7 @@ impl Plan {
             begun,
             recipe,
             commands: noted.commands,
-            explicit: noted.explicit,
-            others: noted.others,
+            files: noted.files,
             known: noted.known,
             report,
             profile: graph.macros.profile(),

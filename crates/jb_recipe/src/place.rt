@@ -2,6 +2,7 @@
 ghost use Rattle.std.specs.Prelude.{ℕ, List, OnOk};
 
 use crate::Stopped;
+use jb_marks::Sights;
 use std::alloc::{AllocError, Global};
 use std::io;
 use thiserror::Error;
@@ -27,8 +28,9 @@ impl From<AllocError> for PlaceFault {
     }
 }
 
-/// Where reports are written and targets are made. Nothing is claimed of it: what files hold is outside every proof.
-pub trait Place {
+/// Where reports are written and targets are made, and where files are looked at. Nothing is claimed of it: what files hold is outside
+/// every proof.
+pub trait Place: Sights {
     /// Nothing is left under this name: a fact that only a call of `remove` gives.
     ghost gone: { Self → List ℕ → Type 0 };
 
@@ -44,6 +46,10 @@ pub trait Place {
 
     /// When a target's file was last changed, in nanoseconds since 1970; None where there is no ordinary file.
     fn stamp(&self, target: &[u8]) -> Option<i128>;
+
+    /// Waits, some milliseconds at most, until the clock by which files are stamped has passed what was this tick a moment ago: what is
+    /// changed behind that is told from what was changed before.
+    fn pass_tick(&self, tick: i128);
 
     /// Puts a target's file on the disk, and its folder, before its 'done' is written. What isn't there or can't be opened is
     /// passed over: many targets are no files.

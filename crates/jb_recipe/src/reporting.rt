@@ -1,105 +1,27 @@
 //! How a target's recipe ended, as it is written.
-ghost use Rattle.std.specs.Prelude.{◌≡◌, ◌≤◌, [], None, IfOk, IfSome, OnOk, option_copied};
+ghost use Rattle.std.specs.Prelude.{◌≡◌, ◌⊎◌, ◌≤◌, ℕ, true, List, IfOk, IfSome};
 ghost use Rattle.st_records.specs.Limits.{IsGoodIn};
 ghost use Rattle.st_records.specs.declared.record.Record.TheVariants as records;
 ghost use Rattle.mk_recipe.specs.declared.line_status.Outcome.TheVariants.{Done};
 ghost use Rattle.bd_lists.specs.Running.{FailsInRange};
-ghost use Rattle.jb_recipe.specs.Environment.{NamesReport};
+ghost use Rattle.jb_recipe.specs.Files.{AreMarksOf, IsLeftSame};
 ghost use Rattle.jb_recipe.specs.Noting.{said_in, IsEndOf};
 
 use crate::elsewhere::tells_elsewhere;
-use crate::noting::{Plan, writable};
+use crate::end_note::{EndNote, Last, NOT_TAKEN, failed};
+use crate::looking::{Behind, look_at_left};
+use crate::noting::writable;
 use crate::said::said_in;
-use crate::{NotDone, Place, PlaceFault};
-use bd_flusher::Receipt;
-use bd_lists::{Clearance, Recipe};
+use crate::{Files, NotDone, Place, PlaceFault};
 use byte_strings::{ByteString, ByteStrings};
+use jb_marks::Earlier;
 use mk_profile::Profile;
 use mk_recipe::{Outcome, read_report};
-use st_records::{Form, HashKey, Record};
+use st_records::{HashKey, Record};
 use std::alloc::{AllocError, Global};
-use std::io;
-
-/// The status of a target whose report can't be taken, or whose file can't be put on the disk.
-const NOT_TAKEN: u32 = 256;
 
 /// The status of a recipe a line of which was stopped or not started.
 const STOPPED: u32 = 256;
-
-/// What the record of a recipe's end says, but for what came of the recipe.
-#[derive(Drop)]
-pub struct EndNote {
-    /// That of the record.
-    form: Form,
-    target: ByteString,
-    commands: ByteStrings,
-    explicit: ByteStrings,
-    /// What the recipe makes beside the target.
-    others: ByteStrings,
-    known: ByteStrings,
-    report: Option<ByteString>,
-    /// How the names of the report are read.
-    profile: Profile,
-    removes: bool,
-    /// The time of the target's file before the recipe, where that may be removed.
-    before: Option<i128>,
-}
-
-/// The last record of a target, and what there is to say where it isn't a 'done'.
-#[derive(Drop)]
-pub struct Last {
-    /// None where not even a 'failed' may stand in the state.
-    pub record: Option<Record>,
-    pub not_done: Option<NotDone>,
-    /// There was no report, and a compiler was told to write what it read elsewhere.
-    pub unreported: bool,
-}
-
-impl Plan {
-    /// The 'begun', the recipe that it clears, what the record of its end will say, and the lines that say why it is run.
-    pub fn apart(self, alloc: Global) -> Result<(Record, Recipe, EndNote, ByteStrings), AllocError>
-        ensures good { IfOk result (λ p. IsGoodIn self.form p.0) }
-        ensures own { IfOk result (λ p. p.0 ≡ records.Begun p.1.target) }
-        ensures recipe { IfOk result (λ p. p.1 ≡ self.recipe) }
-        ensures note { IfOk result (λ p. p.2 ≡ record {
-          form = self.form;
-          target = self.recipe.target;
-          commands = self.commands;
-          explicit = self.explicit;
-          others = self.others;
-          known = self.known;
-          report = self.report;
-          profile = self.profile;
-          removes = self.removes;
-          before = None;
-        }) }
-        ensures named { IfOk result (λ p. IfSome p.2.report (NamesReport p.1.target p.1.env.items)) }
-        ensures told { IfOk result (λ p. p.3 ≡ self.told) }
-    {
-        let target = self.recipe.target.copy(alloc)?;
-        let note = EndNote {
-            form: self.form,
-            target,
-            commands: self.commands,
-            explicit: self.explicit,
-            others: self.others,
-            known: self.known,
-            report: self.report,
-            profile: self.profile,
-            removes: self.removes,
-            before: None,
-        };
-        Ok((self.begun, self.recipe, note, self.told))
-    }
-}
-
-fn failed(form: Form, target: ByteString, status: u32) -> Option<Record>
-    requires { status ≤ 256 }
-    ensures good { IfSome result (λ r. IsGoodIn form r) }
-    ensures note { IfSome result (λ r. r ≡ records.Failed target status) }
-{
-    writable(form, Record::Failed { target, status })
-}
 
 /// The bytes of a report, which isn't left behind; None where there is none.
 fn taken_away<P: Place>(
@@ -149,52 +71,6 @@ fn synced<P: Place>(place: &P, name: &[u8]) -> Result<Result<(), NotDone>, Alloc
 }
 
 impl EndNote {
-    /// Between the target's 'begun' and the first line of its recipe. A report of an earlier run must not be taken for this one's, nor be
-    /// a link by which a compiler writes elsewhere: where it can't be removed no line may be run. What the recipe changes is told by
-    /// the time of the file as it was.
-    pub fn before_run<P: Place>(
-        &mut self,
-        clearance: &Clearance<Receipt>,
-        place: &P,
-    ) -> io::Result<()>
-        requires own { clearance.now.told.noted ≡ records.Begun self.old.target }
-        ensures gone { OnOk result (IfSome self.new.report (P.gone place.now)) }
-        ensures report { self.new.report ≡ self.old.report }
-        ensures form { self.new.form ≡ self.old.form }
-    {
-        self.remove_report(place)?;
-        let _of_before = place.stopped();
-        if self.removes {
-            self.before = place.stamp(self.target.as_slice());
-        }
-        Ok(())
-    }
-
-    /// Where the recipe writes its report, if it is to.
-    pub fn report(&self) -> Option<&ByteString>
-        ensures { option_copied result ≡ self.now.report }
-    {
-        self.report.as_ref()
-    }
-
-    /// The record of a recipe of which no line was run, since a report of an earlier run can't be removed.
-    pub fn left(self, error: io::Error) -> Last
-        ensures good { IfSome result.record (λ r. IsGoodIn self.form r) }
-        ensures note { IfSome result.record (λ r. r ≡ records.Failed self.target 256) }
-    {
-        self.into_failed(NOT_TAKEN, Some(NotDone::NotRemoved(error)))
-    }
-
-    // The report of a failed recipe isn't left behind either.
-    fn remove_report<P: Place>(&self, place: &P) -> io::Result<()>
-        ensures { OnOk result (IfSome self.now.report (P.gone place.now)) }
-    {
-        match &self.report {
-            Some(path) => place.remove(path.as_slice()),
-            None => Ok(()),
-        }
-    }
-
     // Removes the file of a failed recipe's target, where that is to be and the recipe changed it. Whether it is gone.
     fn remove_target<P: Place>(&self, place: &P) -> bool {
         let target = self.target.as_slice();
@@ -246,38 +122,33 @@ impl EndNote {
         self.report.is_some() && self.commands.iter().any(|command| tells_elsewhere(command))
     }
 
-    fn done(self, alloc: Global, hidden: ByteStrings) -> Record
-        ensures { result ≡ records.Done self.target self.commands hidden (said_in self.form self.explicit []) }
+    // The 'done', with this text of the marks.
+    fn done(self, hidden: ByteStrings, marks: ByteString) -> Record
+        ensures { result ≡ records.Done self.target self.commands hidden (said_in self.form self.files.explicit marks) }
     {
         let EndNote {
             form,
             target,
             commands,
-            explicit,
-            others: _,
+            files,
             known: _,
             report: _,
             profile: _,
             removes: _,
             before: _,
+            looked: _,
         } = self;
+        let Files {
+            others: _,
+            source: _,
+            explicit,
+            recorded: _,
+        } = files;
         Record::Done {
             target,
             commands,
             hidden,
-            explicit: said_in(alloc, form, explicit),
-        }
-    }
-
-    fn into_failed(self, status: u32, not_done: Option<NotDone>) -> Last
-        requires { status ≤ 256 }
-        ensures good { IfSome result.record (λ r. IsGoodIn self.form r) }
-        ensures note { IfSome result.record (λ r. r ≡ records.Failed self.target status) }
-    {
-        Last {
-            record: failed(self.form, self.target, status),
-            not_done,
-            unreported: false,
+            explicit: said_in(form, explicit, marks),
         }
     }
 
@@ -289,7 +160,7 @@ impl EndNote {
         if let Err(not_done) = synced(place, self.target.as_slice())? {
             return Ok(Err(not_done));
         }
-        for other in self.others.iter() {
+        for other in self.files.others.iter() {
             if let Err(not_done) = synced(place, other)? {
                 return Ok(Err(not_done));
             }
@@ -314,44 +185,99 @@ impl EndNote {
         }
     }
 
+    // What the recipe has left, which reports these hidden names.
+    fn behind<P: Place, E: Earlier>(
+        &self,
+        alloc: Global,
+        place: &P,
+        run: &E,
+        hidden: &ByteStrings,
+    ) -> Result<Behind, AllocError>
+        ensures marks { IfOk result (λ b. AreMarksOf (P.told place.now) (E.said run.now) self.now.target self.now.files self.now.looked hidden.now b.marks) }
+        ensures same { IfOk result (λ b. b.is_same ≡ true → IsLeftSame (P.told place.now) self.now.target self.now.files self.now.looked) }
+    {
+        match &self.looked {
+            Some(before) => {
+                let names = self.files.names(self.target.as_slice());
+                look_at_left(alloc, place, run, &names, before, hidden)
+            }
+            None => Ok(Behind {
+                marks: ByteString::new(Vec::new(alloc)),
+                is_same: false,
+            }),
+        }
+    }
+
     // A 'done' where it may stand in the state, else a 'failed'.
     fn into_done(
         self,
         alloc: Global,
         hidden: ByteStrings,
+        behind: Behind,
         unreported: bool,
     ) -> Result<Last, AllocError>
         ensures good { IfOk result (λ l. IfSome l.record (λ note. IsGoodIn self.form note)) }
-        ensures end { IfOk result (λ l. IfSome l.record (λ note. IsEndOf self.form Done self.target self.commands self.explicit note)) }
+        ensures end { IfOk result (λ l. IfSome l.record (λ note. (note ≡ records.Failed self.target 256)
+            ⊎ (note ≡ records.Done self.target self.commands hidden (said_in self.form self.files.explicit behind.marks)))) }
+        ensures same { IfOk result (λ l. l.is_same ≡ true → behind.is_same ≡ true) }
     {
         let form = self.form;
         let target = self.target.copy(alloc)?;
-        match writable(form, self.done(alloc, hidden)) {
+        let Behind { marks, is_same } = behind;
+        match writable(form, self.done(hidden, marks)) {
             Some(done) => Ok(Last {
                 record: Some(done),
                 not_done: None,
                 unreported,
+                is_same,
             }),
             None => Ok(Last {
                 record: failed(form, target, NOT_TAKEN),
                 not_done: Some(NotDone::LongRecord),
                 unreported: false,
+                is_same: false,
             }),
         }
     }
 
+    // The record of a recipe that passed, whose files are on the disk, and whose report has these hidden names, if there is one.
+    fn passed<P: Place, E: Earlier>(
+        self,
+        alloc: Global,
+        place: &P,
+        run: &E,
+        reported: Option<ByteStrings>,
+    ) -> Result<Last, AllocError>
+        ensures good { IfOk result (λ l. IfSome l.record (λ note. IsGoodIn self.form note)) }
+        ensures end { IfOk result (λ l. IfSome l.record (λ note. IsEndOf self.form Done self.target self.commands self.files.explicit
+            (AreMarksOf (P.told place.now) (E.said run.now) self.target self.files self.looked) note)) }
+        ensures same { IfOk result (λ l. l.is_same ≡ true → IsLeftSame (P.told place.now) self.target self.files self.looked) }
+    {
+        let unreported = reported.is_none() && self.is_told_elsewhere();
+        let hidden = match reported {
+            Some(hidden) => hidden,
+            None => ByteStrings::empty(alloc),
+        };
+        let behind = self.behind(alloc, place, run, &hidden)?;
+        self.into_done(alloc, hidden, behind, unreported)
+    }
+
     /// The record of the end: a 'done' only where the report was taken, the target's file is on the disk, and the record may
-    /// stand in the state.
-    pub fn last_record<P: Place>(
+    /// stand in the state. Where it says which files the target was made of, what the recipe made and what is new in the report are
+    /// looked at once the files are on the disk.
+    pub fn last_record<P: Place, E: Earlier>(
         self,
         alloc: Global,
         key: HashKey,
         place: &P,
+        run: &E,
         outcome: Outcome,
     ) -> Result<Last, AllocError>
         requires { FailsInRange outcome }
         ensures good { IfOk result (λ l. IfSome l.record (λ note. IsGoodIn self.form note)) }
-        ensures end { IfOk result (λ l. IfSome l.record (λ note. IsEndOf self.form outcome self.target self.commands self.explicit note)) }
+        ensures end { IfOk result (λ l. IfSome l.record (λ note. IsEndOf self.form outcome self.target self.commands self.files.explicit
+            (AreMarksOf (P.told place.now) (E.said run.now) self.target self.files self.looked) note)) }
+        ensures same { IfOk result (λ l. l.is_same ≡ true → IsLeftSame (P.told place.now) self.target self.files self.looked) }
     {
         if let Outcome::Failed(status) = outcome {
             let _ = self.remove_report(place);
@@ -359,11 +285,7 @@ impl EndNote {
             return Ok(self.into_failed(status, removed));
         }
         match self.hidden_once_synced(alloc, key, place)? {
-            Ok(Some(hidden)) => self.into_done(alloc, hidden, false),
-            Ok(None) => {
-                let unreported = self.is_told_elsewhere();
-                self.into_done(alloc, ByteStrings::empty(alloc), unreported)
-            }
+            Ok(reported) => self.passed(alloc, place, run, reported),
             Err(not_done) => Ok(self.into_failed(NOT_TAKEN, Some(not_done))),
         }
     }

@@ -1,3 +1,4 @@
+pub mod Earlier
 pub mod InOrder
 pub mod Making
 pub mod Serving

@@ -1,8 +1,8 @@
 -- What a worker does with a node. Own.
 use Rattle.std.specs.Prelude.{◌≡◌, Bool, true, false, Option, Some, None}
 use Rattle.st_records.specs.declared.record.Record.{Record}
-use Rattle.jb_runner.specs.declared.ending.Begun.{Begun}
-use Rattle.jb_runner.specs.declared.ending.Begun.TheVariants.{Cleared, Refused}
+use Rattle.jb_runner.specs.declared.beginning.Begun.{Begun}
+use Rattle.jb_runner.specs.declared.beginning.Begun.TheVariants.{Cleared, Refused}
 use Rattle.bd_flusher.specs.declared.site.receipt.Receipt.{Receipt}
 use Rattle.bd_lists.specs.declared.board.Advanced.{Advanced}
 use Rattle.bd_lists.specs.declared.board.Advanced.TheVariants as advanced

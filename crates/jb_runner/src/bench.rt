@@ -1,6 +1,7 @@
 //! What a worker makes nodes with.
 
 use crate::desk::Clerk;
+use crate::earlier::Ends;
 use jb_recipe::{News, Say};
 use jb_slots::{Bank, Slots};
 use mk_nodes::Graph;
@@ -18,6 +19,7 @@ pub(crate) struct Bench<'s, D: Disk + Drop, E, S, P> {
     pub(crate) key: HashKey,
     pub(crate) slots: &'s Slots,
     pub(crate) complained: &'s Mutex<bool>,
+    pub(crate) ends: &'s Mutex<Ends>,
     pub(crate) clerk: Clerk<'s, D>,
 }
 

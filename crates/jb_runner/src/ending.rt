@@ -1,23 +1,23 @@
 //! A target's recipe: its 'begun', the run, its 'done' or 'failed'.
-ghost use Rattle.std.specs.Prelude.{◌≡◌, ◌<◌, IfOk, IfSome};
+ghost use Rattle.std.specs.Prelude.{◌≡◌, IfOk, IfSome};
 ghost use Rattle.st_records.specs.Limits.{IsGoodIn};
 ghost use Rattle.st_records.specs.declared.record.Record.TheVariants as records;
 ghost use Rattle.bd_lists.specs.Running.{FailsInRange};
 ghost use Rattle.jb_recipe.specs.Environment.{NamesReport};
-ghost use Rattle.jb_runner.specs.Making.{IsClearedFor};
 
+use crate::beginning::Begun;
 use crate::bench::{Bench, complain};
-use crate::desk::Clerk;
+use crate::earlier::EndedBefore;
 use crate::making::say_lines;
 use crate::pending::Pending;
 use crate::shift::Shift;
-use bd_flusher::{FlushFault, Receipt};
-use bd_ledger::Ticket;
+use bd_flusher::Receipt;
 use bd_links::Node;
-use bd_lists::{Advanced, Clearance, Exec, Recipe, Spent, Told};
+use bd_lists::{Clearance, Exec, Recipe, Spent};
 use jb_closing::RunFault;
 use jb_recipe::{
-    EndNote, Last, News, NotDone, Place, Plan, Ran, Say, Spoken, leave_recipe, run_recipe,
+    EndNote, Last, News, NotDone, Place, PlaceFault, Plan, Ran, Say, Spoken, leave_recipe,
+    run_recipe,
 };
 use jb_slots::Bank;
 use mk_nodes::Graph;
@@ -26,28 +26,11 @@ use st_records::Record;
 use std::alloc::Global;
 use std::sync::Wait;
 
-/// What came of a target's 'begun'.
-enum Begun {
-    /// Its recipe may be run.
-    Cleared(Clearance<Receipt>),
-    /// The board didn't take it.
-    Refused,
-}
-
-// A receipt that the board didn't take, or whose step wasn't the one at which its node stood.
-fn unknown(receipt: Receipt) -> RunFault {
-    let ticket = receipt.ticket();
-    drop(receipt);
-    RunFault::Flush(FlushFault::Unknown(ticket))
-}
-
-// The receipt of an end that has settled its node.
-fn settled(advanced: Result<Advanced<Receipt>, Receipt>) -> Result<Receipt, RunFault> {
-    match advanced {
-        Ok(Advanced::Settled(receipt)) => Ok(receipt),
-        Ok(Advanced::Cleared(clearance)) => Err(unknown(clearance.give_up())),
-        Err(receipt) => Err(unknown(receipt)),
-    }
+/// A recipe that the 'begun' of its target clears, and what the record of its end will say.
+struct Cleared {
+    clearance: Clearance<Receipt>,
+    recipe: Recipe,
+    note: EndNote,
 }
 
 fn failed_status(note: &Record) -> Option<u32> {
@@ -108,74 +91,6 @@ fn tell_end<S: Say>(
     }
 }
 
-impl<D: Disk + Drop> Clerk<'_, D> {
-    // Submits the 'begun' and waits until it is written, with the end that is pending in the same batch. No recipe is run before.
-    fn begin<R: Wait>(
-        &self,
-        rt: &R,
-        alloc: Global,
-        node: Node,
-        begun: Record,
-        shift: &mut Shift,
-    ) -> Result<Begun, RunFault>
-        requires { IsGoodIn self.now.desk.conduct.now.form begun }
-        ensures { IfOk result (λ b. IsClearedFor begun b) }
-    {
-        let Ok(copy) = begun.copy(alloc) else {
-            drop(begun);
-            return Err(RunFault::OutOfMemory);
-        };
-        let handed_in = self.desk.hand_in(rt, node, begun);
-        if let Err(fault) = self.settle_pending(rt, alloc, shift) {
-            drop(copy);
-            return Err(fault);
-        }
-        match handed_in {
-            Some(ticket) => self.clear(rt, alloc, node, ticket, copy),
-            None => {
-                drop(copy);
-                Ok(Begun::Refused)
-            }
-        }
-    }
-
-    // Waits until the 'begun' of this ticket is written.
-    fn clear<R: Wait>(
-        &self,
-        rt: &R,
-        alloc: Global,
-        node: Node,
-        ticket: Ticket,
-        copy: Record,
-    ) -> Result<Begun, RunFault>
-        ensures { IfOk result (λ b. IsClearedFor copy b) }
-    {
-        let receipt = self.flusher.acknowledge(rt, alloc, ticket, copy)?;
-        match self.desk.advance(rt, node, receipt) {
-            Ok(Advanced::Cleared(clearance)) => Ok(Begun::Cleared(clearance)),
-            Ok(Advanced::Settled(receipt)) => Err(unknown(receipt)),
-            Err(receipt) => Err(unknown(receipt)),
-        }
-    }
-
-    /// Waits until the end is written, and settles its node.
-    pub(crate) fn settle_end<R: Wait>(
-        &self,
-        rt: &R,
-        alloc: Global,
-        end: Pending,
-    ) -> Result<Receipt, RunFault> {
-        let Pending {
-            node,
-            ticket,
-            note,
-            failed,
-        } = end;
-        let receipt = self.flusher.acknowledge(rt, alloc, ticket, note)?;
-        settled(self.desk.advance_end(rt, node, receipt, failed))
-    }
-}
-
 impl<D: Disk + Drop, E: Exec<Receipt>, S: Say, P: Place> Bench<'_, D, E, S, P> {
     // Runs a recipe with a job slot. The slot goes back in every case.
     fn run_with_slot<R: Wait, B: Bank>(
@@ -210,7 +125,7 @@ impl<D: Disk + Drop, E: Exec<Receipt>, S: Say, P: Place> Bench<'_, D, E, S, P> {
         ran
     }
 
-    /// Makes a target, up to its end: that is pending then. No line of its recipe is run beside a report of an earlier run.
+    /// Makes a target, up to its end: that is pending then.
     pub(crate) fn build_planned<R: Wait, B: Bank>(
         &self,
         rt: &R,
@@ -222,23 +137,16 @@ impl<D: Disk + Drop, E: Exec<Receipt>, S: Say, P: Place> Bench<'_, D, E, S, P> {
     ) -> Result<(), RunFault>
         requires { plan.form ≡ self.now.clerk.desk.conduct.now.form }
     {
-        let (begun, recipe, mut note, told) = plan.apart(alloc)?;
+        let (begun, recipe, note, told) = plan.apart(alloc)?;
         match self.clerk.begin(rt, alloc, node, begun, shift) {
             Ok(Begun::Cleared(clearance)) => {
                 say_lines(self.say, &told);
-                match note.before_run(&clearance, self.place) {
-                    Ok(()) => {
-                        let ran = self.run_with_slot(rt, alloc, clearance, recipe, &note, bank);
-                        if complain(rt, self.say, self.complained, bank) {
-                            shift.worsen(2);
-                        }
-                        self.end_run(rt, alloc, node, ran, note, shift)
-                    }
-                    Err(error) => {
-                        let spent = leave_recipe(alloc, clearance, recipe);
-                        self.write_end(rt, alloc, node, note.left(error), spent, shift)
-                    }
-                }
+                let cleared = Cleared {
+                    clearance,
+                    recipe,
+                    note,
+                };
+                self.build_cleared(rt, alloc, node, cleared, bank, shift)
             }
             Ok(Begun::Refused) => {
                 drop(recipe);
@@ -254,6 +162,48 @@ impl<D: Disk + Drop, E: Exec<Receipt>, S: Say, P: Place> Bench<'_, D, E, S, P> {
         }
     }
 
+    // No line of the recipe is run beside a report of an earlier run, nor before what goes into the target was looked at.
+    fn build_cleared<R: Wait, B: Bank>(
+        &self,
+        rt: &R,
+        alloc: Global,
+        node: Node,
+        cleared: Cleared,
+        bank: &mut B,
+        shift: &mut Shift,
+    ) -> Result<(), RunFault>
+        requires form { cleared.note.form ≡ self.now.clerk.desk.conduct.now.form }
+        requires own { cleared.clearance.told.noted ≡ records.Begun cleared.recipe.target }
+        requires target { cleared.note.target ≡ cleared.recipe.target }
+        requires named { IfSome cleared.note.report (NamesReport cleared.recipe.target cleared.recipe.env.items) }
+    {
+        let Cleared {
+            clearance,
+            recipe,
+            mut note,
+        } = cleared;
+        let ended = self.ended_before(rt);
+        match note.before_run(alloc, &clearance, self.place, &ended) {
+            Ok(()) => {
+                let ran = self.run_with_slot(rt, alloc, clearance, recipe, &note, bank);
+                if complain(rt, self.say, self.complained, bank) {
+                    shift.worsen(2);
+                }
+                self.end_run(rt, alloc, node, ran, note, &ended, shift)
+            }
+            Err(PlaceFault::Device(error)) => {
+                let spent = leave_recipe(alloc, clearance, recipe);
+                self.write_end(rt, alloc, node, note.left(error), spent, shift)
+            }
+            Err(PlaceFault::OutOfMemory) => {
+                drop(recipe);
+                drop(note);
+                shift.keep(clearance.give_up());
+                Err(RunFault::OutOfMemory)
+            }
+        }
+    }
+
     // The end of a recipe that was run, or given up for want of memory.
     fn end_run<R: Wait>(
         &self,
@@ -262,13 +212,14 @@ impl<D: Disk + Drop, E: Exec<Receipt>, S: Say, P: Place> Bench<'_, D, E, S, P> {
         node: Node,
         ran: Result<Ran, Clearance<Receipt>>,
         note: EndNote,
+        ended: &EndedBefore<'_, R>,
         shift: &mut Shift,
     ) -> Result<(), RunFault>
         requires status { IfOk ran (λ r. FailsInRange r.spent.outcome) }
         requires form { note.form ≡ self.now.clerk.desk.conduct.now.form }
     {
         match ran {
-            Ok(ran) => self.end(rt, alloc, node, ran, note, shift),
+            Ok(ran) => self.end(rt, alloc, node, ran, note, ended, shift),
             Err(clearance) => {
                 drop(note);
                 shift.keep(clearance.give_up());
@@ -285,6 +236,7 @@ impl<D: Disk + Drop, E: Exec<Receipt>, S: Say, P: Place> Bench<'_, D, E, S, P> {
         node: Node,
         ran: Ran,
         note: EndNote,
+        ended: &EndedBefore<'_, R>,
         shift: &mut Shift,
     ) -> Result<(), RunFault>
         requires status { FailsInRange ran.spent.outcome }
@@ -292,8 +244,11 @@ impl<D: Disk + Drop, E: Exec<Receipt>, S: Say, P: Place> Bench<'_, D, E, S, P> {
     {
         let spent = say_block(self.say, ran);
         let outcome = spent.outcome();
-        match note.last_record(alloc, self.key, self.place, outcome) {
-            Ok(last) => self.write_end(rt, alloc, node, last, spent, shift),
+        match note.last_record(alloc, self.key, self.place, ended, outcome) {
+            Ok(last) => {
+                self.note_ended(rt, node, last.is_same);
+                self.write_end(rt, alloc, node, last, spent, shift)
+            }
             Err(_) => {
                 shift.keep(spent.give_up());
                 Err(RunFault::OutOfMemory)
@@ -317,6 +272,7 @@ impl<D: Disk + Drop, E: Exec<Receipt>, S: Say, P: Place> Bench<'_, D, E, S, P> {
             record,
             not_done,
             unreported,
+            is_same: _,
         } = last;
         tell_unreported(self.say, self.graph, node, unreported);
         match record {

@@ -3,9 +3,11 @@
 #![tactic(auto)]
 
 mod abandoning;
+mod beginning;
 mod bench;
 mod boards;
 mod desk;
+mod earlier;
 mod ending;
 mod gate;
 mod in_order;

@@ -4,6 +4,7 @@ ghost use Rattle.mk_graph.specs.Edges.{has};
 ghost use Rattle.jb_runner.specs.Making.{is_remade};
 
 use crate::bench::Bench;
+use crate::earlier::Ends;
 use crate::shift::Shift;
 use bd_flusher::Receipt;
 use bd_links::Node;
@@ -40,6 +41,24 @@ fn mark_remade(marks: &mut Vec<bool>, board: &BoardIn<Receipt>, nodes: &[u32]) {
     }
 }
 
+/// Takes the mark from a node whose recipe left all that it makes as it was: nothing is remade for it.
+fn unmark_if_same(marks: &mut Vec<bool>, ends: &Ends, node: usize) {
+    if node < marks.len() && ends.is_same(node) {
+        marks[node] = false;
+    }
+}
+
+fn unmark_same(marks: &mut Vec<bool>, ends: &Ends, nodes: &[u32], hidden: HiddenNumbers<'_>) {
+    for node in nodes {
+        unmark_if_same(marks, ends, *node as usize);
+    }
+    for node in hidden {
+        if let Some(node) = node {
+            unmark_if_same(marks, ends, node);
+        }
+    }
+}
+
 fn mark_hidden(marks: &mut Vec<bool>, board: &BoardIn<Receipt>, hidden: HiddenNumbers<'_>) {
     for node in hidden {
         if let Some(node) = node {
@@ -48,10 +67,12 @@ fn mark_hidden(marks: &mut Vec<bool>, board: &BoardIn<Receipt>, hidden: HiddenNu
     }
 }
 
-// All prerequisites that a claimed node counts have settled, so their ends are read in one holding of the lock.
+// All prerequisites that a claimed node counts have settled, so their ends are read in one holding of the lock; and what their recipes
+// left was noted before that.
 fn mark<R: Wait>(
     rt: &R,
     board: &Mutex<BoardIn<Receipt>>,
+    ends: &Mutex<Ends>,
     graph: &Graph,
     marks: &mut Vec<bool>,
     number: usize,
@@ -62,6 +83,9 @@ fn mark<R: Wait>(
     mark_remade(marks, &*board, graph.hard.row(number));
     mark_hidden(marks, &*board, graph.hidden(number));
     drop(board);
+    let ends = ends.lock(rt);
+    unmark_same(marks, &*ends, graph.hard.row(number), graph.hidden(number));
+    drop(ends);
 }
 
 /// Says lines that tell of a target.
@@ -107,7 +131,8 @@ impl<D: Disk + Drop, E: Exec<Receipt>, S: Say, P: Place> Bench<'_, D, E, S, P> {
             self.clerk.desk.lose(rt, node);
             return Ok(());
         }
-        mark(rt, self.clerk.desk.board, self.graph, marks, number);
+        let board = self.clerk.desk.board;
+        mark(rt, board, self.ends, self.graph, marks, number);
         match pass(
             alloc,
             self.clerk.desk.conduct.counts_records,

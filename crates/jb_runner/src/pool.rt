@@ -1,8 +1,9 @@
 //! A whole run: workers in threads, and its closing report.
-ghost use Rattle.std.specs.Prelude.{◌≡◌, ℕ, ◌<◌, ◌≤◌, List, false, length, Some, slice_get, unwrap_or, IfOk, IsTrue};
+ghost use Rattle.std.specs.Prelude.{◌≡◌, ℕ, ◌<◌, ◌≤◌, List, [], false, length, Some, slice_get, unwrap_or, IfOk, IsTrue};
 ghost use Rattle.std.specs.List.{list_all};
 ghost use Rattle.std.specs.Thread.{IsSend, IsSync};
 ghost use Rattle.st_disk.specs.Moments.{now};
+ghost use Rattle.st_records.specs.declared.version.Form.TheVariants as forms;
 ghost use Rattle.st_state.specs.State.{replay};
 ghost use Rattle.bd_flusher.specs.declared.site.receipt.Receipt.{Receipt};
 ghost use Rattle.bd_places.specs.declared.end.End.TheVariants.{Abandoned};
@@ -12,6 +13,7 @@ ghost use Rattle.jb_closing.specs.Closing.{AreTrueOf};
 ghost use Rattle.jb_closing.specs.Report.{ends_well, ComesTo};
 
 use crate::boards::board_for;
+use crate::earlier::Ends;
 use crate::gate::{Gate, staying};
 use crate::shift::{Shift, let_go};
 use crate::shop::Shop;
@@ -140,13 +142,13 @@ where
     )
 }
 
-/// What the workers came to, and the site and the board, out of their locks.
+/// What the workers came to, and the site, the board and what has ended, out of their locks.
 fn run_shop<R, D, E, S, P, B>(
     rt: &R,
     alloc: Global,
     shop: Shop<'_, D, E, S, P>,
     banks: Vec<B>,
-) -> (Shift, SiteIn<D>, BoardIn<Receipt>)
+) -> (Shift, SiteIn<D>, BoardIn<Receipt>, Ends)
 where
     R: Threads + Wait + Sync,
     D: Disk + Drop + Send,
@@ -157,8 +159,8 @@ where
 {
     let gate = Gate::new();
     let crew = run_workers(rt, alloc, &shop, &gate, banks);
-    let (site, board) = shop.into_parts();
-    (crew, site, board)
+    let (site, board, ends) = shop.into_parts();
+    (crew, site, board, ends)
 }
 
 /// How each node ended. A node that hasn't, which a fault alone leaves, counts as abandoned.
@@ -181,12 +183,14 @@ fn close<D: Disk + Drop>(
     form: Form,
     graph: &Graph,
     board: &BoardIn<Receipt>,
+    ended: Ends,
     crew: Shift,
 ) -> Result<Report, RunFault>
     ensures ends { IfOk result (λ r. length r.ends.items ≡ length graph.now.nodes.items) }
     ensures status { IfOk result (λ r. r.status ≤ 2) }
     ensures well { IfOk result (λ r. r.status ≡ 0 → IsTrue (list_all ends_well r.ends.items)) }
     ensures newest { IfOk result (λ r. closed.now.site.newest ≡ form) }
+    ensures same { IfOk result (λ r. form ≡ forms.Plain → r.same.items ≡ []) }
     ensures built { IfOk result (λ r. AreThoseOf closed.now.site.told crew.receipts.items
         × AreTrueOf form closed.now.site.told crew.receipts.items (D.honest × (closed.now.site.dead ≡ false)) (now (D.moments closed.now.site.disk))
         graph.now.names r.ends.items) }
@@ -203,7 +207,14 @@ fn close<D: Disk + Drop>(
         return Err(fault);
     }
     let ends = ends_of(alloc, board, graph.len())?;
-    let report = closed.report(alloc, form, graph, Report::of(ends, status), &receipts);
+    let same = ended.into_same(alloc, form);
+    let report = closed.report(
+        alloc,
+        form,
+        graph,
+        Report::of(ends, status, same),
+        &receipts,
+    );
     drop(receipts);
     report
 }
@@ -226,11 +237,19 @@ where
     B: Bank + Drop + Send,
     ensures { ComesTo D.honest D.moments form graph.now result.0 result.1.site }
 {
-    let (crew, site, board) = run_shop(rt, alloc, shop, banks);
+    let (crew, site, board, ended) = run_shop(rt, alloc, shop, banks);
     let closed = Closed::new(site);
-    let report = close(&closed, alloc, form, graph, &board, crew);
+    let report = close(&closed, alloc, form, graph, &board, ended, crew);
     drop(board);
     (report, closed)
+}
+
+/// Which recipes have ended of a run that begins, where 'done' records ask for it.
+fn no_ends(alloc: Global, form: Form, nodes: usize) -> Result<Ends, AllocError> {
+    match form {
+        Form::Old | Form::Plain => Ends::none(alloc, 0),
+        Form::Marked => Ends::none(alloc, nodes),
+    }
 }
 
 /// Makes what the graph's goals need: at most as many recipes run at once as there are ends of the jobserver. The report, or the fault
@@ -263,6 +282,7 @@ where
     ensures status { IfOk result.0 (λ r. r.status ≤ 2) }
     ensures well { IfOk result.0 (λ r. r.status ≡ 0 → IsTrue (list_all ends_well r.ends.items)) }
     ensures newest { IfOk result.0 (λ r. result.1.site.newest ≡ conduct.now.form) }
+    ensures same { IfOk result.0 (λ r. conduct.now.form ≡ forms.Plain → r.same.items ≡ []) }
     ensures built { IfOk result.0 (λ r. (receipts : List Receipt) × AreThoseOf result.1.site.told receipts
         × AreTrueOf conduct.now.form result.1.site.told receipts (D.honest × (result.1.site.dead ≡ false)) (now (D.moments result.1.site.disk))
         graph.now.names r.ends.items) }
@@ -272,11 +292,16 @@ where
         drop(banks);
         return (Err(RunFault::OutOfMemory), Closed::new(site));
     };
+    let Ok(ends) = no_ends(alloc, form, graph.len()) else {
+        drop(banks);
+        drop(board);
+        return (Err(RunFault::OutOfMemory), Closed::new(site));
+    };
     let flusher = FlusherIn {
         form,
         site: Mutex::new(site),
         board: Mutex::new(board),
     };
-    let shop = Shop::new(graph, conduct, exec, say, place, key, flusher);
+    let shop = Shop::new(graph, conduct, exec, say, place, key, flusher, ends);
     run_to_close(rt, alloc, form, graph, shop, banks)
 }

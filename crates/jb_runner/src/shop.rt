@@ -2,6 +2,7 @@
 
 use crate::bench::Bench;
 use crate::desk::{Clerk, Desk, Idlers};
+use crate::earlier::Ends;
 use bd_flusher::{FlusherIn, Receipt, SiteIn};
 use bd_lists::BoardIn;
 use jb_recipe::{Conduct, Say};
@@ -27,6 +28,7 @@ pub(crate) struct Shop<'a, D: Disk + Drop, E, S, P> {
     idlers: Idlers,
     /// Whether the jobserver's fault was told.
     complained: Mutex<bool>,
+    ends: Mutex<Ends>,
 }
 
 impl<'a, D: Disk + Drop, E, S, P> Drop for Shop<'a, D, E, S, P> {
@@ -42,6 +44,7 @@ impl<'a, D: Disk + Drop, E, S, P> Drop for Shop<'a, D, E, S, P> {
             slots: _,
             idlers: _,
             complained: _,
+            ends: _,
         } = self;
     }
 }
@@ -55,6 +58,7 @@ impl<'a, D: Disk + Drop, E, S: Say, P> Shop<'a, D, E, S, P> {
         place: &'a P,
         key: HashKey,
         flusher: FlusherIn<D>,
+        ends: Ends,
     ) -> Shop<'a, D, E, S, P> {
         Shop {
             graph,
@@ -67,11 +71,12 @@ impl<'a, D: Disk + Drop, E, S: Say, P> Shop<'a, D, E, S, P> {
             slots: Slots::new(),
             idlers: Idlers::new(),
             complained: Mutex::new(false),
+            ends: Mutex::new(ends),
         }
     }
 
-    /// The site and the board, out of their locks.
-    pub(crate) fn into_parts(self) -> (SiteIn<D>, BoardIn<Receipt>) {
+    /// The site, the board and what has ended, out of their locks.
+    pub(crate) fn into_parts(self) -> (SiteIn<D>, BoardIn<Receipt>, Ends) {
         let Shop {
             graph: _,
             conduct: _,
@@ -83,13 +88,14 @@ impl<'a, D: Disk + Drop, E, S: Say, P> Shop<'a, D, E, S, P> {
             slots: _,
             idlers: _,
             complained: _,
+            ends,
         } = self;
         let FlusherIn {
             form: _,
             site,
             board,
         } = flusher;
-        (site.into_inner(), board.into_inner())
+        (site.into_inner(), board.into_inner(), ends.into_inner())
     }
 
     /// The board, as workers use it.
@@ -112,6 +118,7 @@ impl<'a, D: Disk + Drop, E, S: Say, P> Shop<'a, D, E, S, P> {
             key: self.key,
             slots: &self.slots,
             complained: &self.complained,
+            ends: &self.ends,
             clerk: Clerk {
                 flusher: &self.flusher,
                 desk: self.desk(),

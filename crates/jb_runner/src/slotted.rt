@@ -1,10 +1,11 @@
 //! A whole run with job slots from where MAKEFLAGS says.
-ghost use Rattle.std.specs.Prelude.{◌≡◌, ◌≤◌, List, false, length, IfOk, IsTrue};
+ghost use Rattle.std.specs.Prelude.{◌≡◌, ◌≤◌, List, [], false, length, IfOk, IsTrue};
 ghost use Rattle.std.specs.List.{list_all};
 ghost use Rattle.mk_nodes.specs.declared.graph.Graph.{Graph};
 ghost use Rattle.st_disk.specs.Moments.{now};
 ghost use Rattle.st_state.specs.State.{replay};
 ghost use Rattle.st_records.specs.declared.version.Form.{Form};
+ghost use Rattle.st_records.specs.declared.version.Form.TheVariants as forms;
 ghost use Rattle.bd_flusher.specs.declared.site.receipt.Receipt.{Receipt};
 ghost use Rattle.jb_closing.specs.Agreement.{AreThoseOf};
 ghost use Rattle.jb_closing.specs.Closing.{AreTrueOf};
@@ -265,6 +266,7 @@ where
     ensures status { IfOk result.0 (λ r. r.status ≤ 2) }
     ensures well { IfOk result.0 (λ r. r.status ≡ 0 → IsTrue (list_all ends_well r.ends.items)) }
     ensures newest { IfOk result.0 (λ r. result.1.site.newest ≡ conduct.form) }
+    ensures same { IfOk result.0 (λ r. conduct.form ≡ forms.Plain → r.same.items ≡ []) }
     ensures built { IfOk result.0 (λ r. (receipts : List Receipt) × AreThoseOf result.1.site.told receipts
         × AreTrueOf conduct.form result.1.site.told receipts (D.honest × (result.1.site.dead ≡ false)) (now (D.moments result.1.site.disk))
         parts.now.graph.now.names r.ends.items) }

@@ -10,7 +10,10 @@ use Rattle.mk_macros.specs.Ranks.{Defined, meanings_of}
 use Rattle.mk_macros.specs.declared.dynamic.Dynamic.TheVariants as dynamic
 use Rattle.mk_macros.specs.declared.dynamic.RecipeNames.{RecipeNames}
 use Rattle.mk_recipe.specs.declared.line.Line.{Line}
+use Rattle.mk_verdict.specs.Marks.{Differs}
 use Rattle.mk_verdict.specs.Verdict.{IsLater, IsFirstReason, IsOutOfDate}
+use Rattle.mk_verdict.specs.declared.mark.Look.{Look}
+use Rattle.mk_verdict.specs.declared.mark.Mark.{Mark}
 use Rattle.mk_verdict.specs.declared.verdict.Reason.{Reason}
 use Rattle.mk_verdict.specs.declared.verdict.Target.{Target}
 use Rattle.mk_profile.specs.Profile.{is_wide}
@@ -22,11 +25,12 @@ use Rattle.mk_rule_lines.specs.declared.rule_line.RuleLine.{RuleLine}
 use Rattle.mk_nodes.specs.Prerequisites.{distinct, hidden_in}
 use Rattle.mk_nodes.specs.declared.graph.Graph.{Graph}
 use Rattle.mk_marks.specs.declared.noted.Noted.{Noted}
+use Rattle.mk_seen.specs.Marks.{look_of, with_marks, marks_of, hard_marked}
 use Rattle.mk_seen.specs.Nodes.{stamp_of, made_of, entry_of, stem_of, source_of, is_marked}
 use Rattle.st_records.specs.declared.record.Entry.{Entry}
 use Rattle.mk_plan.specs.ExplicitWords.{once_of, first_of, is_implicit, source_word, stem_left, stem_word}
 use Rattle.mk_plan.specs.Nodes.{IsNewer, AreNewer, nothing, named, left_out, EndsRemade}
-use Rattle.mk_plan.specs.PartWords.{once_in, written_in, row_in}
+use Rattle.mk_plan.specs.PartWords.{once_in, written_in, hard_in}
 use Rattle.mk_plan.specs.Parts.{language_of, is_part}
 use Rattle.mk_plan.specs.Recipe.{AreExpanded, AreNames, AreLinesIn, AreLinesOf}
 use Rattle.mk_plan.specs.Target.{IsTargetOf}
@@ -35,26 +39,28 @@ use Rattle.mk_plan.specs.Passing.{Passes, is_to_be_run, is_up_to_date, has_no_re
 use Rattle.mk_plan.specs.Words.{in_wide, implied_names, written_of, order_only_words}
 use Rattle.mk_plan.specs.Why.{IsWhy, judged_names, words_by, gone_number}
 use Rattle.mk_plan.specs.declared.why.Why.{Why}
-use Rattle.mk_plan.proofs.SeenLemmas.{turned, same_noted, same_files, seen_in}
+use Rattle.mk_plan.proofs.SeenLemmas.{turned, same_noted, same_files, same_marks, seen_in}
 pub use Rattle.mk_plan.proofs.SeenLemmas.{AreAlike}
 
 -- ---- what is newer, and what ends as remade
 
-abbrev IsNewerBy : (marks : List Bool) (m : ℕ) (stamp target : Option ℤ) → Type 0
-IsNewerBy marks m stamp target = (target ≡ None) ⊎ (IsLater stamp target ⊎ IsTrue (is_marked marks m))
+abbrev IsNewerBy : (marks : List Bool) (m : ℕ) (mark : Mark) (stamp target : Option ℤ) (look : Look) → Type 0
+IsNewerBy marks m mark stamp target look = (target ≡ None) ⊎ (IsLater stamp target ⊎ (IsTrue (is_marked marks m) ⊎ Differs mark look))
 
-newer_in : (a b : Graph) → AreAlike a b → (marks : List Bool) (n m : ℕ) → IsNewer a marks n m → IsNewer b marks n m
-newer_in a b same marks n m is =
-    subst (λ t. IsNewerBy marks m (stamp_of b m) t) (same.made n) (subst (λ s. IsNewerBy marks m s (made_of a n)) (same.stamp m) is)
+newer_in : (a b : Graph) → AreAlike a b → (marks : List Bool) (n : ℕ) (p : ℕ × Mark) → IsNewer a marks n p → IsNewer b marks n p
+newer_in a b same marks n (m, mark) is =
+    subst (λ t. IsNewerBy marks m mark (stamp_of b m) t (look_of b m)) (same.made n)
+    (subst (λ s. IsNewerBy marks m mark s (made_of a n) (look_of b m)) (same.stamp m)
+    (subst (λ l. IsNewerBy marks m mark (stamp_of a m) (made_of a n) l) (same.look m) is))
 
-words_in : (a b : Graph) → AreAlike a b → (marks : List Bool) (n : ℕ) (ms : List ℕ) (words : List (List ℕ)) →
-    AreNewer a marks n ms words → AreNewer b marks n ms words
+words_in : (a b : Graph) → AreAlike a b → (marks : List Bool) (n : ℕ) (ps : List (ℕ × Mark)) (words : List (List ℕ)) →
+    AreNewer a marks n ps words → AreNewer b marks n ps words
 words_in a b same marks n _ _ nothing = nothing
-words_in a b same marks n _ _ (named {prerequisites = ms} {words = words} m is more) =
-    subst (λ w. AreNewer b marks n (m ∷ ms) (w ∷ words)) (sym (ap (λ ns. name_at ns m) same.names))
-    (named m (newer_in a b same marks n m is) (words_in a b same marks n ms words more))
-words_in a b same marks n _ _ (left_out {prerequisites = ms} {words = words} m other more) =
-    left_out m (λ is. other (newer_in b a (turned a b same) marks n m is)) (words_in a b same marks n ms words more)
+words_in a b same marks n _ _ (named {prerequisites = ps} {words = words} p is more) =
+    subst (λ w. AreNewer b marks n (p ∷ ps) (w ∷ words)) (sym (ap (λ ns. name_at ns p.0) same.names))
+    (named p (newer_in a b same marks n p is) (words_in a b same marks n ps words more))
+words_in a b same marks n _ _ (left_out {prerequisites = ps} {words = words} p other more) =
+    left_out p (λ is. other (newer_in b a (turned a b same) marks n p is)) (words_in a b same marks n ps words more)
 
 abbrev EndsRemadeBy : (marks : List Bool) (stamp : Option ℤ) (hard : List ℕ) → Type 0
 EndsRemadeBy marks stamp hard = (stamp ≡ None) ⊎ Any (λ m. IsTrue (is_marked marks m)) hard
@@ -75,6 +81,9 @@ module _ (a b : Graph) (same : AreAlike a b) (marks : List Bool) (n : ℕ) where
       ∙ ap (λ lines. implied_names b n ++ explicit_names lines (name_at a.names n)) same.lines
       ∙ ap (λ ns. implied_names b n ++ explicit_names b.lines.items (name_at ns n)) same.names
 
+  same_hard : hard_marked a n ≡ hard_marked b n
+  same_hard = ap (λ h. with_marks (row h n) (marks_of a n)) same.hard ∙ ap (with_marks (row b.hard n)) (same_marks a b same marks n)
+
   wide_in : {A : Type 0} (v w : A) → v ≡ w → in_wide (language_of a) v ≡ in_wide (language_of b) w
   wide_in v w e = ap (λ (d : Defined). in_wide d.language v) same.defined ∙ ap (in_wide (language_of b)) e
 
@@ -93,14 +102,14 @@ module _ (a b : Graph) (same : AreAlike a b) (marks : List Bool) (n : ℕ) where
         ap (λ (d : Defined). chosen (names_in l) (written_of a n) d.language) same.defined
         ∙ ap (λ ns. chosen (names_in l) ns (language_of b)) same_written
 
-    abbrev among : (names : List (List ℕ)) (hard : List (List ℕ)) → List ℕ
-    among names hard = filter (λ m. has_name (distinct (names_in l)) (name_at names m)) (row hard n)
+    abbrev among : (names : List (List ℕ)) (hard : List (ℕ × Mark)) → List (ℕ × Mark)
+    among names hard = filter (λ p. has_name (distinct (names_in l)) (name_at names p.0)) hard
 
-    row_alike : row_in a n l ≡ row_in b n l
-    row_alike =
-        ap (λ (d : Defined). chosen (among a.names a.hard) (row a.hard n) d.language) same.defined
-        ∙ ap (λ ns. chosen (among ns a.hard) (row a.hard n) (language_of b)) same.names
-        ∙ ap (λ h. chosen (among b.names h) (row h n) (language_of b)) same.hard
+    hard_alike : hard_in a n l ≡ hard_in b n l
+    hard_alike =
+        ap (λ (d : Defined). chosen (among a.names (hard_marked a n)) (hard_marked a n) d.language) same.defined
+        ∙ ap (λ ns. chosen (among ns (hard_marked a n)) (hard_marked a n) (language_of b)) same.names
+        ∙ ap (λ h. chosen (among b.names h) h (language_of b)) same_hard
 
     -- what `$<` and `$*` stand for is the same choice of the same values
     abbrev source_from : Profile → (sources once : List (List ℕ)) (source : List ℕ) → List ℕ
@@ -139,7 +148,7 @@ module _ (a b : Graph) (same : AreAlike a b) (marks : List Bool) (n : ℕ) where
     source = are.source ∙ source_alike l;
     stem = are.stem ∙ stem_alike;
     newer =
-        subst (λ ms. AreNewer b marks n ms (map (λ word. word.now) names.newer.now)) (row_alike l) (words_in a b same marks n _ _ are.newer);
+        subst (λ ps. AreNewer b marks n ps (map (λ word. word.now) names.newer.now)) (hard_alike l) (words_in a b same marks n _ _ are.newer);
     once = are.once ∙ wide_in (once_in a n l) (once_in b n l) (once_alike l);
     repeated = are.repeated ∙ wide_in (written_in a n l) (written_in b n l) (written_alike l);
     order_only = are.order_only ∙ wide_in (order_only_words a n) (order_only_words b n) (same.order_only n);

@@ -8,9 +8,12 @@ use Rattle.std.proofs.lemmas.Int.{ints}
 use Rattle.std.proofs.lemmas.List.Folds.{Any-from_list_any, list_any-from_Any}
 use Rattle.mk_graph.specs.Edges.{row}
 use Rattle.mk_graph.specs.Numbering.{name_at}
-use Rattle.mk_verdict.specs.Tests.{is_later}
+use Rattle.mk_verdict.specs.Tests.{is_later, mark_differs}
 use Rattle.mk_verdict.specs.Verdict.{IsLater}
+use Rattle.mk_verdict.specs.declared.mark.Mark.{Mark}
+use Rattle.mk_verdict.proofs.MarkLemmas.{differs_decides}
 use Rattle.mk_nodes.specs.declared.graph.Graph.{Graph}
+use Rattle.mk_seen.specs.Marks.{look_of, hard_marked}
 use Rattle.mk_seen.specs.Nodes.{stamp_of, made_of, is_marked}
 use Rattle.mk_plan.specs.Nodes.{IsNewer, AreNewer, nothing, named, left_out, EndsRemade}
 use Rattle.mk_plan.specs.Tests.{is_newer_word, newer_words, ends_remade}
@@ -46,36 +49,42 @@ module _ (graph : Graph) (marks : List Bool) (n : ℕ) where
       Decides-or (is_none (stamp_of graph n)) (list_any (is_marked marks) (row graph.hard n)) (absent_decides (stamp_of graph n))
       (Any-from_list_any (is_marked marks) (row graph.hard n), list_any-from_Any (is_marked marks) (row graph.hard n))
 
-  newer_decides : (m : ℕ) → Decides (is_newer_word graph marks n m) (IsNewer graph marks n m)
-  newer_decides m =
-      Decides-or (is_none (made_of graph n)) (is_later (stamp_of graph m) (made_of graph n) || is_marked marks m) (absent_decides (made_of graph n))
-      (Decides-or (is_later (stamp_of graph m) (made_of graph n)) (is_marked marks m) (later_decides (stamp_of graph m) (made_of graph n)) ((λ e. e), λ e. e))
+  newer_decides : (p : ℕ × Mark) → Decides (is_newer_word graph marks n p) (IsNewer graph marks n p)
+  newer_decides (m, mark) =
+      Decides-or (is_none (made_of graph n)) (is_later (stamp_of graph m) (made_of graph n) || (is_marked marks m || mark_differs mark (look_of graph m)))
+      (absent_decides (made_of graph n))
+      (Decides-or (is_later (stamp_of graph m) (made_of graph n)) (is_marked marks m || mark_differs mark (look_of graph m))
+      (later_decides (stamp_of graph m) (made_of graph n))
+      (Decides-or (is_marked marks m) (mark_differs mark (look_of graph m)) ((λ e. e), λ e. e) (differs_decides mark (look_of graph m))))
 
-  newer_one : (m : ℕ) (ms : List ℕ) (b : Bool) → is_newer_word graph marks n m ≡ b →
-      AreNewer graph marks n ms (map (name_at graph.names) (filter (is_newer_word graph marks n) ms)) →
-      AreNewer graph marks n (m ∷ ms)
-      (map (name_at graph.names) (cond b (m ∷ filter (is_newer_word graph marks n) ms) (filter (is_newer_word graph marks n) ms)))
-  newer_one m ms true e rest = named m ((newer_decides m).0 e) rest
-  newer_one m ms false e rest = left_out m (λ is. let both : false ≡ true = sym e ∙ (newer_decides m).1 is in cc) rest
+  -- the words that these give
+  abbrev pub words_by : (ps : List (ℕ × Mark)) → List (List ℕ)
+  words_by ps = map (λ p. name_at graph.names p.0) (filter (is_newer_word graph marks n) ps)
 
-  pub newer_by : (ms : List ℕ) → AreNewer graph marks n ms (map (name_at graph.names) (filter (is_newer_word graph marks n) ms))
+  newer_one : (p : ℕ × Mark) (ps : List (ℕ × Mark)) (b : Bool) → is_newer_word graph marks n p ≡ b → AreNewer graph marks n ps (words_by ps) →
+      AreNewer graph marks n (p ∷ ps)
+      (map (λ q. name_at graph.names q.0) (cond b (p ∷ filter (is_newer_word graph marks n) ps) (filter (is_newer_word graph marks n) ps)))
+  newer_one p ps true e rest = named p ((newer_decides p).0 e) rest
+  newer_one p ps false e rest = left_out p (λ is. let both : false ≡ true = sym e ∙ (newer_decides p).1 is in cc) rest
+
+  pub newer_by : (ps : List (ℕ × Mark)) → AreNewer graph marks n ps (words_by ps)
   newer_by [] = nothing
-  newer_by (m ∷ ms) = newer_one m ms (is_newer_word graph marks n m) refl (newer_by ms)
+  newer_by (p ∷ ps) = newer_one p ps (is_newer_word graph marks n p) refl (newer_by ps)
 
   -- the words that pass the test are those of `$?`
-  pub are_newer : (words : List (List ℕ)) → words ≡ newer_words graph marks n → AreNewer graph marks n (row graph.hard n) words
-  are_newer words is = subst (AreNewer graph marks n (row graph.hard n)) (sym is) (newer_by (row graph.hard n))
+  pub are_newer : (words : List (List ℕ)) → words ≡ newer_words graph marks n → AreNewer graph marks n (hard_marked graph n) words
+  are_newer words is = subst (AreNewer graph marks n (hard_marked graph n)) (sym is) (newer_by (hard_marked graph n))
 
   -- ---- one list of words
 
-  same_behind : (m : ℕ) (ms : List ℕ) (a b : List (List ℕ)) →
-      ((x y : List (List ℕ)) → AreNewer graph marks n ms x → AreNewer graph marks n ms y → x ≡ y) →
-      AreNewer graph marks n (m ∷ ms) a → AreNewer graph marks n (m ∷ ms) b → a ≡ b
-  same_behind m ms a b same (named _ is here) (named _ is' there) = ap (λ words. name_at graph.names m ∷ words) (same _ _ here there)
-  same_behind m ms a b same (named _ is here) (left_out _ other there) = absurd (other is)
-  same_behind m ms a b same (left_out _ other here) (named _ is there) = absurd (other is)
-  same_behind m ms a b same (left_out _ other here) (left_out _ other' there) = same _ _ here there
+  same_behind : (p : ℕ × Mark) (ps : List (ℕ × Mark)) (a b : List (List ℕ)) →
+      ((x y : List (List ℕ)) → AreNewer graph marks n ps x → AreNewer graph marks n ps y → x ≡ y) →
+      AreNewer graph marks n (p ∷ ps) a → AreNewer graph marks n (p ∷ ps) b → a ≡ b
+  same_behind p ps a b same (named _ is here) (named _ is' there) = ap (λ words. name_at graph.names p.0 ∷ words) (same _ _ here there)
+  same_behind p ps a b same (named _ is here) (left_out _ other there) = absurd (other is)
+  same_behind p ps a b same (left_out _ other here) (named _ is there) = absurd (other is)
+  same_behind p ps a b same (left_out _ other here) (left_out _ other' there) = same _ _ here there
 
-  pub same_newer : (ms : List ℕ) (a b : List (List ℕ)) → AreNewer graph marks n ms a → AreNewer graph marks n ms b → a ≡ b
+  pub same_newer : (ps : List (ℕ × Mark)) (a b : List (List ℕ)) → AreNewer graph marks n ps a → AreNewer graph marks n ps b → a ≡ b
   same_newer [] a b nothing nothing = refl
-  same_newer (m ∷ ms) a b h k = same_behind m ms a b (same_newer ms) h k
+  same_newer (p ∷ ps) a b h k = same_behind p ps a b (same_newer ps) h k

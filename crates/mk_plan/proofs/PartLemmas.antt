@@ -3,7 +3,6 @@ use Rattle.std.specs.Prelude.{Result, Ok, Err, IsErrAnd, IfErr}
 use Rattle.std.proofs.Common.{◌≡◌, ◌∙◌, ◌+◌, ◌<◌, ◌≤◌, ℕ, suc, add-one, get_or, length, Bool, true, false, cond, ◌&&◌, List, [], ◌∷◌, ◌++◌, map, filter, drop, Some, None, inl, inr, refl, sym, ap, subst}
 use Rattle.std.proofs.Math.Seq.{drop-cons}
 use Rattle.std.proofs.lemmas.List.{append_assoc, append-nil, drop_all, drop-map}
-use Rattle.mk_graph.specs.Edges.{row}
 use Rattle.mk_graph.specs.Numbering.{name_at, has_name}
 use Rattle.mk_profile.specs.Profile.{is_wide}
 use Rattle.mk_profile.specs.declared.profile.Profile.{Profile}
@@ -11,9 +10,10 @@ use Rattle.mk_recipe.specs.declared.line.Line.{Line}
 use Rattle.mk_rule_lines.specs.declared.fault.TextFault.{TextFault}
 use Rattle.mk_rule_lines.specs.declared.rule_line.RuleLine.{RuleLine}
 use Rattle.mk_nodes.specs.declared.graph.Graph.{Graph}
+use Rattle.mk_seen.specs.Marks.{hard_marked}
 use Rattle.mk_plan.specs.Nodes.{AreNewer}
 use Rattle.mk_plan.specs.PartTests.{newer_among}
-use Rattle.mk_plan.specs.PartWords.{row_among}
+use Rattle.mk_plan.specs.PartWords.{hard_among}
 use Rattle.mk_plan.specs.Parts.{is_part}
 use Rattle.mk_plan.specs.Recipe.{AreLinesIn, AreLinesOf, IsFaultOfPart, HasFaultyPart, IsFaultOf}
 use Rattle.mk_plan.specs.Tests.{is_newer_word}
@@ -82,11 +82,13 @@ filter_both p q (x ∷ xs) = both_tests p q x xs (p x) (q x) refl refl (filter_b
 
 -- the words of `$?` that a line with `::` has
 pub among_newer : (graph : Graph) (marks : List Bool) (n : ℕ) (names words : List (List ℕ)) → words ≡ newer_among graph marks n names →
-    AreNewer graph marks n (row_among graph n names) words
+    AreNewer graph marks n (hard_among graph n names) words
 among_newer graph marks n names words is =
-    subst (AreNewer graph marks n (row_among graph n names))
-    (sym (is ∙ ap (map (name_at graph.names)) (filter_both (λ m. has_name names (name_at graph.names m)) (is_newer_word graph marks n) (row graph.hard n))))
-    (newer_by graph marks n (row_among graph n names))
+    subst (AreNewer graph marks n (hard_among graph n names))
+    (sym (is
+    ∙ ap (map (λ p. name_at graph.names p.0))
+    (filter_both (λ p. has_name names (name_at graph.names p.0)) (is_newer_word graph marks n) (hard_marked graph n))))
+    (newer_by graph marks n (hard_among graph n names))
 
 -- what a line has of its own, and what it hasn't
 pub own_value : {A : Type 0} (own whole : A) (profile : Profile) (l : RuleLine) → is_part profile l ≡ true → cond (is_part profile l) own whole ≡ own

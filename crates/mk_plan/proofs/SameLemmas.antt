@@ -32,7 +32,7 @@ use Rattle.mk_nodes.specs.declared.graph.Graph.{Graph}
 use Rattle.st_records.specs.declared.record.Entry.{Entry}
 use Rattle.mk_seen.specs.Nodes.{entry_of}
 use Rattle.mk_seen.specs.Seen.{Seen, shown}
-use Rattle.mk_plan.specs.PartWords.{row_in}
+use Rattle.mk_plan.specs.PartWords.{hard_in}
 use Rattle.mk_plan.specs.Parts.{recipe_of}
 use Rattle.mk_plan.specs.Recipe.{IsExpandedLine, AreExpanded, AreNames, recipe_meaning, AreLinesIn, AreLinesOf}
 use Rattle.mk_plan.specs.Target.{IsTargetOf}
@@ -71,7 +71,7 @@ module _ (graph : Graph) (marks : List Bool) (n : ℕ) (l : RuleLine) (a b : Rec
       ∙ ap (λ s. whole_from b.target.now s a.stem.now (map (λ word. word.now) a.newer.now) (words_in a.once) (words_in a.repeated) (words_in a.order_only) sign) (of_a.source ∙ sym of_b.source)
       ∙ ap (λ s. whole_from b.target.now b.source.now s (map (λ word. word.now) a.newer.now) (words_in a.once) (words_in a.repeated) (words_in a.order_only) sign) (of_a.stem ∙ sym of_b.stem)
       ∙ ap (λ ws. whole_from b.target.now b.source.now b.stem.now ws (words_in a.once) (words_in a.repeated) (words_in a.order_only) sign)
-      (same_newer graph marks n (row_in graph n l) _ _ of_a.newer of_b.newer)
+      (same_newer graph marks n (hard_in graph n l) _ _ of_a.newer of_b.newer)
       ∙ ap (λ ws. whole_from b.target.now b.source.now b.stem.now (map (λ word. word.now) b.newer.now) ws (words_in a.repeated) (words_in a.order_only) sign) (of_a.once ∙ sym of_b.once)
       ∙ ap (λ ws. whole_from b.target.now b.source.now b.stem.now (map (λ word. word.now) b.newer.now) (words_in b.once) ws (words_in a.order_only) sign) (of_a.repeated ∙ sym of_b.repeated)
       ∙ ap (λ ws. whole_from b.target.now b.source.now b.stem.now (map (λ word. word.now) b.newer.now) (words_in b.once) (words_in b.repeated) ws sign) (of_a.order_only ∙ sym of_b.order_only)

@@ -106,7 +106,7 @@ module _ (a b : Graph) (same : AreAlike a b) (marks : List Bool) (n : ℕ) where
       ∙ ap (λ ns. marks_by entry (noted_in b n entry) (looks_made b n) ns (hidden_of a n)) (same.explicit n)
       ∙ ap (marks_by entry (noted_in b n entry) (looks_made b n) (explicit_of b n)) (same.hidden n)
 
-  same_marks : marks_of a n ≡ marks_of b n
+  pub same_marks : marks_of a n ≡ marks_of b n
   same_marks =
       ap (λ (f : Entry → Kept). option_map_or f (entry_of a n) (nothing_kept NotKept)) (fun_ext marks_alike)
       ∙ ap (λ e. option_map_or (marks_in b n) e (nothing_kept NotKept)) (same.entry n)

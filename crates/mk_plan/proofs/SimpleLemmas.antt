@@ -3,7 +3,7 @@ use Rattle.std.specs.Borrow.{Bor}
 use Rattle.std.specs.List.{list_any}
 use Rattle.std.specs.Bool.{OnTrue}
 use Rattle.std.specs.Prelude.{option_to_list, option_map}
-use Rattle.std.proofs.Common.{◌≡◌, ◌∙◌, ◌≤◌, ◌==◌, ℕ, Bool, true, false, cond, List, [], ◌∷◌, ◌++◌, length, map, filter, Option, Some, None, refl, sym, ap, subst}
+use Rattle.std.proofs.Common.{◌≡◌, ◌∙◌, ◌≤◌, ◌==◌, ℕ, Bool, true, false, cond, List, [], ◌∷◌, ◌++◌, length, map, Option, Some, None, refl, sym, ap, subst}
 use Rattle.std.proofs.lemmas.Bool.{or_parts}
 use Rattle.std.proofs.lemmas.Slice.Eq.{bytes_eq-Decides}
 use Rattle.std.specs.Str.{bytes_eq}
@@ -27,12 +27,11 @@ use Rattle.mk_plan.specs.ExplicitWords.{source_word, stem_word}
 use Rattle.mk_plan.specs.Finished.{GivesFirst, GivesCommands, PartGives}
 use Rattle.mk_plan.specs.Nodes.{AreNewer}
 use Rattle.mk_plan.specs.Parts.{language_of}
-use Rattle.mk_plan.specs.PartWords.{once_in, written_in, row_in}
+use Rattle.mk_plan.specs.PartWords.{once_in, written_in, hard_in}
 use Rattle.mk_plan.specs.Recipe.{AreExpanded, AreNames, recipe_meaning}
-use Rattle.mk_plan.specs.Tests.{is_newer_word}
 use Rattle.mk_plan.specs.Simple.{KeepsFirst, IsItsOwn}
 use Rattle.mk_plan.specs.Words.{in_wide, order_only_words}
-use Rattle.mk_plan.proofs.NodeLemmas.{newer_by}
+use Rattle.mk_plan.proofs.NodeLemmas.{newer_by, words_by}
 
 -- ---- a text without a dollar
 
@@ -98,7 +97,7 @@ found_again (Some words) = ap Some (words_again words)
 
 module _ (graph : Graph) (marks : List Bool) (n : ℕ) (l : RuleLine) where
   abbrev newer_words : List (List ℕ)
-  newer_words = map (name_at graph.names) (filter (is_newer_word graph marks n) (row_in graph n l))
+  newer_words = words_by graph marks n (hard_in graph n l)
 
   abbrev names_there : RecipeNames
   names_there = record {
@@ -116,7 +115,7 @@ module _ (graph : Graph) (marks : List Bool) (n : ℕ) (l : RuleLine) where
     target = refl;
     source = refl;
     stem = refl;
-    newer = subst (AreNewer graph marks n (row_in graph n l)) (sym (words_again newer_words)) (newer_by graph marks n (row_in graph n l));
+    newer = subst (AreNewer graph marks n (hard_in graph n l)) (sym (words_again newer_words)) (newer_by graph marks n (hard_in graph n l));
     once = found_again (in_wide (language_of graph) (once_in graph n l));
     repeated = found_again (in_wide (language_of graph) (written_in graph n l));
     order_only = found_again (in_wide (language_of graph) (order_only_words graph n));

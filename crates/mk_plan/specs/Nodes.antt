@@ -3,23 +3,31 @@ use Rattle.std.specs.Prelude.{◌≡◌, ◌⊎◌, ℕ, Bool, IsTrue, List, [],
 use Rattle.std.specs.List.{Any}
 use Rattle.mk_graph.specs.Edges.{row}
 use Rattle.mk_graph.specs.Numbering.{name_at}
+use Rattle.mk_verdict.specs.Marks.{Differs}
 use Rattle.mk_verdict.specs.Verdict.{IsLater}
+use Rattle.mk_verdict.specs.declared.mark.Mark.{Mark}
 use Rattle.mk_nodes.specs.declared.graph.Graph.{Graph}
+use Rattle.mk_seen.specs.Marks.{look_of}
 use Rattle.mk_seen.specs.Nodes.{stamp_of, made_of}
 pub use Rattle.mk_seen.specs.Nodes.{made_beside, explicit_of, is_marked}
 
--- the prerequisite m is newer than the target n, as `$?` has it: its file is later, or it was remade; each is where a file of the target
--- is missing (make(1S), "Dynamic Macros"; that remade ones count: own)
-abbrev pub IsNewer : Graph → (marks : List Bool) → (n m : ℕ) → Type 0
-IsNewer graph marks n m = (made_of graph n ≡ None) ⊎ (IsLater (stamp_of graph m) (made_of graph n) ⊎ IsTrue (is_marked marks m))
+-- the prerequisite m, of which the state has this mark, is newer than the target n, as `$?` has it: a file of the target is missing, or
+-- that of the prerequisite is later, or it was remade, or it isn't, or may not be, the file that the target was made of (make(1S), "Dynamic
+-- Macros"; that remade ones and other files count: own)
+abbrev pub IsNewer : Graph → (marks : List Bool) → (n : ℕ) → ℕ × Mark → Type 0
+IsNewer graph marks n (m, mark) =
+    (made_of graph n ≡ None)
+    ⊎ (IsLater (stamp_of graph m) (made_of graph n)
+    ⊎ (IsTrue (is_marked marks m)
+    ⊎ Differs mark (look_of graph m)))
 
 -- the words that these prerequisites give `$?` of the target n: the names of those that are newer, in their order
-pub data AreNewer (graph : Graph) (marks : List Bool) (n : ℕ) : (prerequisites : List ℕ) → (words : List (List ℕ)) → Type 0 where
+pub data AreNewer (graph : Graph) (marks : List Bool) (n : ℕ) : (prerequisites : List (ℕ × Mark)) → (words : List (List ℕ)) → Type 0 where
   nothing : AreNewer graph marks n [] []
-  named : {prerequisites : List ℕ} {words : List (List ℕ)} (m : ℕ) → IsNewer graph marks n m →
-      AreNewer graph marks n prerequisites words → AreNewer graph marks n (m ∷ prerequisites) (name_at graph.names m ∷ words)
-  left_out : {prerequisites : List ℕ} {words : List (List ℕ)} (m : ℕ) → (IsNewer graph marks n m → ⊥) →
-      AreNewer graph marks n prerequisites words → AreNewer graph marks n (m ∷ prerequisites) words
+  named : {prerequisites : List (ℕ × Mark)} {words : List (List ℕ)} (p : ℕ × Mark) → IsNewer graph marks n p →
+      AreNewer graph marks n prerequisites words → AreNewer graph marks n (p ∷ prerequisites) (name_at graph.names p.0 ∷ words)
+  left_out : {prerequisites : List (ℕ × Mark)} {words : List (List ℕ)} (p : ℕ × Mark) → (IsNewer graph marks n p → ⊥) →
+      AreNewer graph marks n prerequisites words → AreNewer graph marks n (p ∷ prerequisites) words
 
 -- a node without a recipe was remade: it has no file, or a hard prerequisite was remade
 abbrev pub EndsRemade : Graph → (marks : List Bool) → (n : ℕ) → Type 0

@@ -18,7 +18,7 @@ use Rattle.mk_nodes.specs.declared.graph.Graph.{Graph}
 use Rattle.mk_graph.specs.Numbering.{name_at}
 use Rattle.mk_plan.specs.ExplicitWords.{source_word, stem_word}
 use Rattle.mk_plan.specs.Nodes.{AreNewer}
-use Rattle.mk_plan.specs.PartWords.{once_in, written_in, row_in}
+use Rattle.mk_plan.specs.PartWords.{once_in, written_in, hard_in}
 use Rattle.mk_plan.specs.Parts.{language_of}
 use Rattle.mk_plan.specs.declared.fault.RecipeFault.{RecipeFault}
 use Rattle.mk_plan.specs.declared.fault.RecipeFault.TheVariants as fault
@@ -76,14 +76,14 @@ pub record AreNames (graph : Graph) (marks : List Bool) (n : ℕ) (l : RuleLine)
   pub target : names.target.now ≡ name_at graph.names n
   pub source : names.source.now ≡ source_word graph n l
   pub stem : names.stem.now ≡ stem_word graph n
-  pub newer : AreNewer graph marks n (row_in graph n l) (map (λ word. word.now) names.newer.now)
+  pub newer : AreNewer graph marks n (hard_in graph n l) (map (λ word. word.now) names.newer.now)
   pub once : words_in names.once ≡ in_wide (language_of graph) (once_in graph n l)
   pub repeated : words_in names.repeated ≡ in_wide (language_of graph) (written_in graph n l)
   pub order_only : words_in names.order_only ≡ in_wide (language_of graph) (order_only_words graph n)
 
 -- the words of `$?`, `$^`, `$+` and `$|` in that part
 pub record AreRecipeWords (graph : Graph) (marks : List Bool) (n : ℕ) (l : RuleLine) (words : RecipeWords) : Type 0 where
-  pub newer : AreNewer graph marks n (row_in graph n l) (map (λ word. word.now) words.newer.items)
+  pub newer : AreNewer graph marks n (hard_in graph n l) (map (λ word. word.now) words.newer.items)
   pub once : option_map (λ found. map (λ word. word.now) found.items) words.once ≡ in_wide (language_of graph) (once_in graph n l)
   pub repeated : option_map (λ found. map (λ word. word.now) found.items) words.repeated ≡ in_wide (language_of graph) (written_in graph n l)
   pub order_only : option_map (λ found. map (λ word. word.now) found.items) words.order_only ≡ in_wide (language_of graph) (order_only_words graph n)

@@ -3,17 +3,23 @@ use Rattle.std.specs.Prelude.{ℕ, Bool, ◌||◌, List, map, filter, is_none}
 use Rattle.std.specs.List.{list_any}
 use Rattle.mk_graph.specs.Edges.{row}
 use Rattle.mk_graph.specs.Numbering.{name_at}
-use Rattle.mk_verdict.specs.Tests.{is_later}
+use Rattle.mk_verdict.specs.Tests.{is_later, mark_differs}
+use Rattle.mk_verdict.specs.declared.mark.Mark.{Mark}
 use Rattle.mk_nodes.specs.declared.graph.Graph.{Graph}
+use Rattle.mk_seen.specs.Marks.{look_of, hard_marked}
 use Rattle.mk_seen.specs.Nodes.{stamp_of, made_of, is_marked}
 
--- the prerequisite m is newer than the target n
-abbrev pub is_newer_word : Graph → (marks : List Bool) → (n m : ℕ) → Bool
-is_newer_word graph marks n m = is_none (made_of graph n) || (is_later (stamp_of graph m) (made_of graph n) || is_marked marks m)
+-- the prerequisite m with this mark is newer than the target n
+abbrev pub is_newer_word : Graph → (marks : List Bool) → (n : ℕ) → ℕ × Mark → Bool
+is_newer_word graph marks n (m, mark) =
+    is_none (made_of graph n)
+    || (is_later (stamp_of graph m) (made_of graph n)
+    || (is_marked marks m
+    || mark_differs mark (look_of graph m)))
 
 -- the words of `$?`: of the source and the prerequisites by name
 abbrev pub newer_words : Graph → (marks : List Bool) → (n : ℕ) → List (List ℕ)
-newer_words graph marks n = map (name_at graph.names) (filter (is_newer_word graph marks n) (row graph.hard n))
+newer_words graph marks n = map (λ p. name_at graph.names p.0) (filter (is_newer_word graph marks n) (hard_marked graph n))
 
 -- a node without a recipe was remade
 abbrev pub ends_remade : Graph → (marks : List Bool) → (n : ℕ) → Bool

@@ -7,17 +7,25 @@ ghost use Rattle.mk_seen.specs.Nodes.{is_marked};
 ghost use Rattle.mk_plan.specs.Tests.{is_newer_word, newer_words, ends_remade};
 
 use mk_nodes::Graph;
-use mk_seen::{is_later, is_marked, made_of, name_of, stamp_of};
+use mk_seen::{is_later, is_marked, look_of, made_of, marks_of, name_of, stamp_of};
+use mk_verdict::Mark;
 use std::alloc::{AllocError, Global};
 
-/// Whether a prerequisite is among the words of `$?` for a target.
-pub fn is_newer_word(graph: &Graph, marks: &[bool], target: usize, prerequisite: usize) -> bool
-    ensures { result ≡ is_newer_word graph.now marks.now target prerequisite }
+/// Whether a prerequisite, of which the state has this mark, is among the words of `$?` for a target.
+pub fn is_newer_word(
+    graph: &Graph,
+    marks: &[bool],
+    target: usize,
+    prerequisite: usize,
+    mark: Mark,
+) -> bool
+    ensures { result ≡ is_newer_word graph.now marks.now target (prerequisite, mark) }
 {
     let made = made_of(graph, target);
     made.is_none()
         || is_later(stamp_of(graph, prerequisite), made)
         || is_marked(marks, prerequisite)
+        || mark.differs(look_of(graph, prerequisite))
 }
 
 /// The words of `$?` for a node.
@@ -31,8 +39,10 @@ pub fn newer_words<'g>(
     ensures { IfOk result (λ words. map (λ word. word.now) words.items ≡ newer_words graph.now marks.now node) }
 {
     let mut words = Vec::new(alloc);
+    let mut kept = marks_of(graph, node);
     for prerequisite in graph.hard.row(node) {
-        if is_newer_word(graph, marks, node, *prerequisite as usize) {
+        let mark = kept.take_mark();
+        if is_newer_word(graph, marks, node, *prerequisite as usize, mark) {
             words.push(name_of(graph, *prerequisite as usize))?;
         }
     }

@@ -4,7 +4,7 @@ ghost use Rattle.mk_graph.specs.Numbering.{all_added};
 ghost use Rattle.mk_rule_lines.specs.Explicit.{names_in};
 ghost use Rattle.mk_nodes.specs.Prerequisites.{distinct};
 ghost use Rattle.mk_plan.specs.Parts.{language_of, is_part};
-ghost use Rattle.mk_plan.specs.PartTests.{newer_among};
+ghost use Rattle.mk_plan.specs.PartTests.{is_newer_among, newer_among};
 ghost use Rattle.mk_plan.specs.Recipe.{AreRecipeWords};
 
 use crate::nodes::is_newer_word;
@@ -13,7 +13,8 @@ use byte_strings::ByteStrings;
 use mk_graph::Names;
 use mk_nodes::Graph;
 use mk_rule_lines::{RuleLine, names_in};
-use mk_seen::name_of;
+use mk_seen::{marks_of, name_of};
+use mk_verdict::Mark;
 use std::alloc::{AllocError, Global};
 
 /// The prerequisites of a line, as they are written and each once.
@@ -70,6 +71,21 @@ fn once_words<'w>(alloc: Global, names: &'w Names) -> Result<Vec<&'w [u8]>, Allo
     Ok(words)
 }
 
+/// Whether a prerequisite, of which the state has this mark, is newer than a target and is among these names.
+fn is_newer_among(
+    graph: &Graph,
+    marks: &[bool],
+    target: usize,
+    names: &Names,
+    prerequisite: usize,
+    mark: Mark,
+) -> bool
+    ensures { result ≡ is_newer_among graph.now marks.now target names.now (prerequisite, mark) }
+{
+    names.number_of(name_of(graph, prerequisite)).is_some()
+        && is_newer_word(graph, marks, target, prerequisite, mark)
+}
+
 /// The hard prerequisites of a node that are newer and are among these names.
 fn newer_among<'g>(
     alloc: Global,
@@ -82,11 +98,12 @@ fn newer_among<'g>(
     ensures { IfOk result (λ words. map (λ word. word.now) words.items ≡ newer_among graph.now marks.now node names.now) }
 {
     let mut words = Vec::new(alloc);
+    let mut kept = marks_of(graph, node);
     for prerequisite in graph.hard.row(node) {
+        let mark = kept.take_mark();
         let number = *prerequisite as usize;
-        let name = name_of(graph, number);
-        if names.number_of(name).is_some() && is_newer_word(graph, marks, node, number) {
-            words.push(name)?;
+        if is_newer_among(graph, marks, node, names, number, mark) {
+            words.push(name_of(graph, number))?;
         }
     }
     Ok(words)

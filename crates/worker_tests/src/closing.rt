@@ -106,6 +106,7 @@ fn push_receipts<D: Disk + Drop>(
 
 fn report_of(alloc: Global, ends: &[End]) -> Result<Report, AllocError> {
     Ok(Report {
+        same: Vec::new(alloc),
         ends: Vec::from_slice(alloc, ends)?,
         status: 0,
     })

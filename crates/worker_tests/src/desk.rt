@@ -1,11 +1,26 @@
 //! Empty reports, and targets that can or can't be put on the disk.
 
 use crate::fake::Fake;
+use jb_marks::{Sight, Sights};
 use jb_recipe::{Place, PlaceFault, Stopped};
 use std::alloc::Global;
 use std::io::{self, ErrorKind};
 use std::sync::Wait;
 use std::time::Clock;
+
+impl<R: Wait + Clock + Copy> Sights for Fake<R> {
+    ghost told = { λ fake name sight. Unit {0} };
+
+    ghost ticked = { λ fake tick. Unit {0} };
+
+    fn look(&self, _name: &[u8]) -> Sight {
+        Sight::NoFile
+    }
+
+    fn tick(&self) -> i128 {
+        0
+    }
+}
 
 impl<R: Wait + Clock + Copy> Place for Fake<R> {
     ghost gone = { λ fake path. Unit {0} };
@@ -30,6 +45,8 @@ impl<R: Wait + Clock + Copy> Place for Fake<R> {
     fn stamp(&self, _target: &[u8]) -> Option<i128> {
         None
     }
+
+    fn pass_tick(&self, _tick: i128) {}
 
     fn sync(&self, target: &[u8]) -> Result<(), PlaceFault> {
         self.say(b"~sync ", target);

@@ -3,7 +3,7 @@ use Rattle.st_disk.specs.Moments.{now}
 use Rattle.st_records.specs.declared.version.Form.{Form}
 use Rattle.st_recovery.specs.Stored.{AllRecoverIn}
 use Rattle.st_recovery.proofs.StoredLemmas.{all_recover}
-use Rattle.dmk_run.proofs.BuildingLemmas.{is_made, where_told, well_told, borne_told}
+use Rattle.dmk_run.proofs.BuildingLemmas.{is_made, where_told, well_told, borne_told, same_told}
 use Rattle.dmk_run.proofs.building.build.Goals as goal
 
 pub returns-clause-newest : goal.returns-clause-newest
@@ -30,6 +30,10 @@ returns-clause-well g c =
 
 pub returns-clause-borne_out : goal.returns-clause-borne_out
 returns-clause-borne_out g c = borne_told c.args.graph.now c.args.conduct.counts_records c.args.conduct.keeps_state c.into_store.result.state c.run_slotted-found.result.0 c.told.result.found c.told.ensures.report
+
+pub returns-clause-same : goal.returns-clause-same
+returns-clause-same g c =
+    same_told c.args.graph.now c.args.conduct.counts_records c.args.conduct.keeps_state c.into_store.result.state c.args.conduct.form c.run_slotted-found.result.0 c.told.result.found c.run_slotted-found.ensures.same c.told.ensures.report
 
 pub returns-clause-made : goal.returns-clause-made
 returns-clause-made g c =

@@ -13,7 +13,7 @@ returns-clause-made g c =
     rw c.disk_of-2.ensures
     (has_made c.args.plan.conduct.form c.args.plan.graph c.args.plan.conduct.counts_records c.args.plan.conduct.keeps_state g.D.Disk.honest (now (g.D.Disk.moments c.build-found.result.store.log.disk))
     (tried_in c.came_to-came_to.result.1) c.build-found.result.found c.came_to-came_to.result.0 c.came_to-came_to.ensures.status c.build-found.ensures.ends
-    c.build-found.ensures.well c.build-found.ensures.borne_out c.build-found.ensures.made)
+    c.build-found.ensures.well c.build-found.ensures.same c.build-found.ensures.borne_out c.build-found.ensures.made)
 
 pub returns-clause-status : goal.returns-clause-status
 returns-clause-status g c = status_of_report c.args.plan.graph.unmade.items c.build-found.result.found c.came_to-came_to.result.0

@@ -1,6 +1,7 @@
-use Rattle.std.proofs.Common.{◌≡◌, ◌≤◌, length, IsTrue, ap, ◌∙◌}
+use Rattle.std.proofs.Common.{◌≡◌, ◌≤◌, [], length, IsTrue, ap, ◌∙◌}
 use Rattle.std.specs.List.{list_all}
 use Rattle.jb_closing.specs.Report.{ends_well}
+use Rattle.st_records.specs.declared.version.Form.TheVariants as forms
 use Rattle.jb_runner.proofs.RunningLemmas.{if_same, if_both}
 use Rattle.jb_runner.proofs.pool.close.Goals as goal
 
@@ -16,6 +17,11 @@ returns-clause-status g c = if_same (λ r. r.status ≤ 2) c.report-report.resul
 pub returns-clause-well : goal.returns-clause-well
 returns-clause-well g c =
     if_same (λ r. r.status ≡ 0 → IsTrue (list_all ends_well r.ends.items)) c.report-report.result c.of.result c.report-report.ensures.same c.of.ensures.well
+
+pub returns-clause-same : goal.returns-clause-same
+returns-clause-same g c =
+    if_same (λ r. c.args.form ≡ forms.Plain → r.same.items ≡ []) c.report-report.result c.of.result c.report-report.ensures.same
+    (λ plain. ap (λ same. same.items) c.of.ensures.same ∙ c.into_same-same.ensures plain)
 
 pub returns-clause-built : goal.returns-clause-built
 returns-clause-built g c =

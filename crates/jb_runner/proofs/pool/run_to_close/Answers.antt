@@ -12,5 +12,6 @@ returns g c = record {
   status = c.close-report.ensures.status;
   well = c.close-report.ensures.well;
   newest = c.close-report.ensures.newest;
+  same = c.close-report.ensures.same;
   built = IfOk-weaker c.close-report.result _ _ (λ r both. (c.run_shop-crew.result.0.receipts.items, both.0, both.1)) c.close-report.ensures.built;
 }
