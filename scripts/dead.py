@@ -29,9 +29,10 @@ WAITING = {
     "crates/mk_reader/proofs/SearchLemmas.antt": {"read_further"},
 }
 WAITING_EXPORTS = {
+    "bl_log": {"CriticalPath", "Ranked", "Span", "busy", "by_time", "critical_path", "lanes"},
     "jb_flags": {"Jobs", "jobs_of", "push_quoted"},
-    # What jb_recipe is to look by.
-    "jb_marks": {"Before", "Earlier", "Known", "Left", "MemorySights", "Names", "Placed", "Recorded", "Sight", "Sights", "is_same", "look_behind"},
+    "jb_marks": {"Known", "MemorySights", "Placed", "is_same"},
+    "jb_recipe": {"Files"},
     "jb_slots": {"Fifo", "FifoBank", "dry"},
     "mk_conditionals": {"BodyLine", "DirectiveLine", "Reading", "body_line"},
     "mk_eval": {"MAX_INCLUDE_DEPTH"},
@@ -41,8 +42,9 @@ WAITING_EXPORTS = {
     "mk_graph": {"distinct_names", "order_nodes", "whole_plan"},
     "mk_macros": {"FUNCTIONS"},
     "mk_marks": {"mark_of"},
+    "mk_plan": {"made_beside"},
     "mk_recipe": {"LineStatus", "Look", "Mark", "Prerequisite", "Told", "Verdict", "outcome"},
-    "mk_seen": {"SeenFiles", "look_of", "marks_of"},
+    "mk_seen": {"SeenFiles"},
     # What dmk_run is to tell behind a goal that nothing makes.
     "near_names": {"nearest"},
     "mk_wildcards": {"Brackets", "Element", "elements", "fits_name"},
