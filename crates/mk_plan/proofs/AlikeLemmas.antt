@@ -22,14 +22,14 @@ use Rattle.mk_reader.specs.Text.{is_empty}
 use Rattle.mk_rule_lines.specs.Explicit.{names_in, explicit_of as explicit_names}
 use Rattle.mk_rule_lines.specs.Rules.{suffixes_of, is_default_rule}
 use Rattle.mk_rule_lines.specs.declared.rule_line.RuleLine.{RuleLine}
-use Rattle.mk_nodes.specs.Prerequisites.{distinct, hidden_in}
+use Rattle.mk_nodes.specs.Prerequisites.{distinct, hidden_in, is_cut}
 use Rattle.mk_nodes.specs.declared.graph.Graph.{Graph}
 use Rattle.mk_marks.specs.declared.noted.Noted.{Noted}
 use Rattle.mk_seen.specs.Marks.{look_of, with_marks, marks_of, hard_marked}
 use Rattle.mk_seen.specs.Nodes.{stamp_of, made_of, entry_of, stem_of, source_of, is_marked}
 use Rattle.st_records.specs.declared.record.Entry.{Entry}
 use Rattle.mk_plan.specs.ExplicitWords.{once_of, first_of, is_implicit, source_word, stem_left, stem_word}
-use Rattle.mk_plan.specs.Nodes.{IsNewer, AreNewer, nothing, named, left_out, EndsRemade}
+use Rattle.mk_plan.specs.Nodes.{was_cut, IsNewer, AreNewer, nothing, named, left_out, EndsRemade}
 use Rattle.mk_plan.specs.PartWords.{once_in, written_in, hard_in}
 use Rattle.mk_plan.specs.Parts.{language_of, is_part}
 use Rattle.mk_plan.specs.Recipe.{AreExpanded, AreNames, AreLinesIn, AreLinesOf}
@@ -44,14 +44,21 @@ pub use Rattle.mk_plan.proofs.SeenLemmas.{AreAlike}
 
 -- ---- what is newer, and what ends as remade
 
-abbrev IsNewerBy : (marks : List Bool) (m : ℕ) (mark : Mark) (stamp target : Option ℤ) (look : Look) → Type 0
-IsNewerBy marks m mark stamp target look = (target ≡ None) ⊎ (IsLater stamp target ⊎ (IsTrue (is_marked marks m) ⊎ Differs mark look))
+abbrev IsNewerBy : (marks : List Bool) (m : ℕ) (mark : Mark) (cut : Bool) (stamp target : Option ℤ) (look : Look) → Type 0
+IsNewerBy marks m mark cut stamp target look =
+    (target ≡ None) ⊎ (IsTrue cut ⊎ (IsLater stamp target ⊎ (IsTrue (is_marked marks m) ⊎ Differs mark look)))
+
+same_cut : (a b : Graph) → AreAlike a b → (n : ℕ) → was_cut a n ≡ was_cut b n
+same_cut a b same n =
+    ap (λ (d : Defined). is_wide d.language && option_map_or (λ (e : Entry). is_cut e.phase) (entry_of a n) false) same.defined
+    ∙ ap (λ (o : Option Entry). is_wide (language_of b) && option_map_or (λ (e : Entry). is_cut e.phase) o false) (same.entry n)
 
 newer_in : (a b : Graph) → AreAlike a b → (marks : List Bool) (n : ℕ) (p : ℕ × Mark) → IsNewer a marks n p → IsNewer b marks n p
 newer_in a b same marks n (m, mark) is =
-    subst (λ t. IsNewerBy marks m mark (stamp_of b m) t (look_of b m)) (same.made n)
-    (subst (λ s. IsNewerBy marks m mark s (made_of a n) (look_of b m)) (same.stamp m)
-    (subst (λ l. IsNewerBy marks m mark (stamp_of a m) (made_of a n) l) (same.look m) is))
+    subst (λ c. IsNewerBy marks m mark c (stamp_of b m) (made_of b n) (look_of b m)) (same_cut a b same n)
+    (subst (λ t. IsNewerBy marks m mark (was_cut a n) (stamp_of b m) t (look_of b m)) (same.made n)
+    (subst (λ s. IsNewerBy marks m mark (was_cut a n) s (made_of a n) (look_of b m)) (same.stamp m)
+    (subst (λ l. IsNewerBy marks m mark (was_cut a n) (stamp_of a m) (made_of a n) l) (same.look m) is)))
 
 words_in : (a b : Graph) → AreAlike a b → (marks : List Bool) (n : ℕ) (ps : List (ℕ × Mark)) (words : List (List ℕ)) →
     AreNewer a marks n ps words → AreNewer b marks n ps words

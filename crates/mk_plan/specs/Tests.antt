@@ -8,14 +8,16 @@ use Rattle.mk_verdict.specs.declared.mark.Mark.{Mark}
 use Rattle.mk_nodes.specs.declared.graph.Graph.{Graph}
 use Rattle.mk_seen.specs.Marks.{look_of, hard_marked}
 use Rattle.mk_seen.specs.Nodes.{stamp_of, made_of, is_marked}
+use Rattle.mk_plan.specs.Nodes.{was_cut}
 
 -- the prerequisite m with this mark is newer than the target n
 abbrev pub is_newer_word : Graph → (marks : List Bool) → (n : ℕ) → ℕ × Mark → Bool
 is_newer_word graph marks n (m, mark) =
     is_none (made_of graph n)
+    || (was_cut graph n
     || (is_later (stamp_of graph m) (made_of graph n)
     || (is_marked marks m
-    || mark_differs mark (look_of graph m)))
+    || mark_differs mark (look_of graph m))))
 
 -- the words of `$?`: of the source and the prerequisites by name
 abbrev pub newer_words : Graph → (marks : List Bool) → (n : ℕ) → List (List ℕ)
