@@ -2,6 +2,7 @@
 
 use crate::shared_syncs::SharedSyncs;
 use crate::shell::set_text;
+use crate::sights::last_tick;
 use crate::stops::Stops;
 use jb_recipe::{Place, PlaceFault, Stopped};
 use std::alloc::{AllocError, Global};
@@ -158,6 +159,8 @@ pub struct HostPlace<'a, R: Wait> {
     pub(crate) host: HostRuntime,
     folders: SharedSyncs<'a, R>,
     stops: &'a Stops<'a, R>,
+    /// What the clock said when the run began.
+    pub(crate) began: i128,
 }
 
 impl<'a, R: Wait> HostPlace<'a, R> {
@@ -166,6 +169,7 @@ impl<'a, R: Wait> HostPlace<'a, R> {
             host,
             folders: SharedSyncs::new(rt, host.alloc()),
             stops,
+            began: last_tick(),
         }
     }
 

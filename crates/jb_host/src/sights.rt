@@ -20,6 +20,18 @@ fn moment(seconds: i64, nanoseconds: i64) -> i128 {
     i128::from(seconds) * SECOND + i128::from(nanoseconds)
 }
 
+/// What the clock says, in nanoseconds since 1970. Where it can't be read no look counts.
+pub(crate) fn last_tick() -> i128 {
+    let mut now = libc::types::timespec {
+        tv_sec: 0,
+        tv_nsec: 0,
+    };
+    if libc::clock_gettime(CLOCK_REALTIME_COARSE, &mut now) != 0 {
+        return i128::MIN;
+    }
+    moment(now.tv_sec, now.tv_nsec)
+}
+
 fn sight_of(found: &Metadata) -> Sight {
     if !found.is_file() {
         return Sight::Other;
@@ -46,16 +58,10 @@ impl<R: Wait> Sights for HostPlace<'_, R> {
         }
     }
 
-    // Where the clock can't be read no look counts.
+    // Later than when the run began: each file that was changed before it has an earlier time.
     fn tick(&self) -> i128 {
-        let mut now = libc::types::timespec {
-            tv_sec: 0,
-            tv_nsec: 0,
-        };
-        if libc::clock_gettime(CLOCK_REALTIME_COARSE, &mut now) != 0 {
-            return i128::MIN;
-        }
-        moment(now.tv_sec, now.tv_nsec)
+        self.wait_for_tick(self.began);
+        last_tick()
     }
 }
 
@@ -63,7 +69,7 @@ impl<R: Wait> HostPlace<'_, R> {
     /// Waits until the clock has passed this tick, some milliseconds at most.
     pub(crate) fn wait_for_tick(&self, tick: i128) {
         for _ in 0..LONGEST_WAIT {
-            if self.tick() > tick {
+            if last_tick() > tick {
                 return;
             }
             thread::sleep(&self.host, Duration::from_millis(1));
