@@ -79,7 +79,7 @@ impl StatusLine {
         self.seconds = 0;
         match step {
             Step::Planned(planned) => self.planned = self.ended.saturating_add(planned),
-            Step::Begins => {
+            Step::Begins(_) => {
                 self.running = self.running.saturating_add(1);
                 self.is_wanted = true;
             }
@@ -88,7 +88,7 @@ impl StatusLine {
                     self.text = text;
                 }
             }
-            Step::Ends => {
+            Step::Ends(_, _) => {
                 self.running = self.running.saturating_sub(1);
                 self.ended = self.ended.saturating_add(1);
             }

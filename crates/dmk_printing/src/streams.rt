@@ -155,7 +155,7 @@ impl<O: Write + Drop, E: Write + Drop> Streams<O, E> {
         if let Some(status) = &mut self.status {
             status.go_on(step);
         }
-        if matches!(step, Step::Runs(_) | Step::Ends) {
+        if matches!(step, Step::Runs(_) | Step::Ends(_, _)) {
             self.draw_status();
         }
     }

@@ -1,5 +1,6 @@
 pub mod Environment
 pub mod Files
+pub mod Hidden
 pub mod LongLine
 pub mod Noting
 pub mod Running

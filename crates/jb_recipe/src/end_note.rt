@@ -5,6 +5,7 @@ ghost use Rattle.st_records.specs.declared.record.Record.TheVariants as records;
 ghost use Rattle.jb_recipe.specs.Environment.{NamesReport};
 ghost use Rattle.jb_recipe.specs.Files.{AreLooksAt, IsLooked, is_marked};
 
+use crate::depfile::Depfiles;
 use crate::looking::look_before;
 use crate::noting::{Plan, writable};
 use crate::{Files, NotDone, Place, PlaceFault};
@@ -37,6 +38,8 @@ pub struct EndNote {
     pub(crate) before: Option<i128>,
     /// What was looked at before the recipe, where the record says which files the target was made of.
     pub(crate) looked: Option<Before>,
+    /// Where compilers may write what they read in place of the report, looked at then too.
+    pub(crate) depfiles: Option<Depfiles>,
 }
 
 /// The last record of a target, and what there is to say where it isn't a 'done'.
@@ -68,6 +71,7 @@ impl Plan {
           removes = self.removes;
           before = None;
           looked = None;
+          depfiles = None;
         }) }
         ensures named { IfOk result (λ p. IfSome p.2.report (NamesReport p.1.target p.1.env.items)) }
         ensures told { IfOk result (λ p. p.3 ≡ self.told) }
@@ -84,6 +88,7 @@ impl Plan {
             removes: self.removes,
             before: None,
             looked: None,
+            depfiles: None,
         };
         Ok((self.begun, self.recipe, note, self.told))
     }
@@ -135,7 +140,20 @@ impl EndNote {
             self.before = place.stamp(self.target.as_slice());
         }
         self.looked = self.looks(alloc, place, run)?;
+        self.depfiles = self.depfile_looks(alloc, place)?;
         Ok(())
+    }
+
+    // Where the recipe may write what it read, where the record of its end is to say which files those were.
+    fn depfile_looks<P: Place>(
+        &self,
+        alloc: Global,
+        place: &P,
+    ) -> Result<Option<Depfiles>, AllocError> {
+        if self.looked.is_none() {
+            return Ok(None);
+        }
+        Ok(Some(Depfiles::look(alloc, place, &self.commands)?))
     }
 
     // What goes into the target, looked at where the record of its end is to say it.
@@ -153,6 +171,12 @@ impl EndNote {
         }
         let names = self.files.names(self.target.as_slice());
         Ok(Some(look_before(alloc, place, run, &names)?))
+    }
+
+    pub fn target(&self) -> &[u8]
+        ensures { result.now ≡ self.now.target }
+    {
+        self.target.as_slice()
     }
 
     /// Where the recipe writes its report, if it is to.

@@ -2,9 +2,11 @@
 #![tactic(auto)]
 
 mod conduct;
+mod depfile;
 mod elsewhere;
 mod end_note;
 mod files;
+mod hidden;
 mod looking;
 mod not_done;
 mod noting;

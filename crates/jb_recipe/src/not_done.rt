@@ -1,6 +1,7 @@
 //! What there is to say of a target that isn't done.
 
 use crate::Stopped;
+use mk_depfiles::Refusal;
 use mk_recipe::ReportFault;
 use st_records::{MAX_HIDDEN_NAMES, MAX_NAME_BYTES, MAX_RECORD_BYTES};
 use std::io;
@@ -20,6 +21,9 @@ pub enum NotDone {
     LongName,
     #[error("its report has more than {most} names", most = MAX_HIDDEN_NAMES)]
     ManyNames,
+    /// What a compiler wrote in place of the report.
+    #[error("its depfile, {0}")]
+    BadDepfile(Refusal),
     /// With the names of its report.
     #[error("its record has more than {most} bytes", most = MAX_RECORD_BYTES)]
     LongRecord,

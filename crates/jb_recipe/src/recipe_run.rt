@@ -19,11 +19,12 @@ pub struct Ran {
     pub spent: Spent<Receipt>,
 }
 
-/// Says each line that is printed, and then runs it. Each is a step of the run.
+/// Says each line of the target's recipe that is printed, and then runs it. Each is a step of the run.
 #[derive(Drop)]
 pub struct Spoken<'a, E, S> {
     pub exec: &'a E,
     pub say: &'a S,
+    pub target: &'a [u8],
 }
 
 impl<T, E: Exec<T>, S: Say> Exec<T> for Spoken<'_, E, S> {
@@ -66,9 +67,9 @@ pub fn run_recipe<E: Exec<Receipt>, S: Say, P: Place>(
     let Ok(mut ended) = Vec::with_capacity(alloc, recipe.lines.len()) else {
         return Err(clearance);
     };
-    spoken.say.step(Step::Begins);
+    spoken.say.step(Step::Begins(spoken.target));
     let spent = clearance.run(alloc, recipe, spoken, &mut ended);
-    spoken.say.step(Step::Ends);
+    spoken.say.step(Step::Ends(spoken.target, spent.outcome()));
     Ok(Ran { ended, spent })
 }
 

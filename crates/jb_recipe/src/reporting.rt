@@ -7,8 +7,10 @@ ghost use Rattle.bd_lists.specs.Running.{FailsInRange};
 ghost use Rattle.jb_recipe.specs.Files.{AreMarksOf, IsLeftSame};
 ghost use Rattle.jb_recipe.specs.Noting.{said_in, IsEndOf};
 
+use crate::depfile::Read;
 use crate::elsewhere::tells_elsewhere;
 use crate::end_note::{EndNote, Last, NOT_TAKEN, failed};
+use crate::hidden::hidden_by;
 use crate::looking::{Behind, look_at_left};
 use crate::noting::writable;
 use crate::said::said_in;
@@ -117,6 +119,48 @@ impl EndNote {
         }
     }
 
+    // What compilers have written in place of the report; nothing where that wasn't looked for.
+    fn read_depfiles<P: Place>(
+        &self,
+        alloc: Global,
+        place: &P,
+    ) -> Result<Result<Read, NotDone>, AllocError> {
+        match &self.depfiles {
+            Some(depfiles) => depfiles.read(alloc, place),
+            None => Ok(Ok(Read {
+                names: None,
+                is_whole: false,
+            })),
+        }
+    }
+
+    // What was read by the report and by what compilers have written in its place.
+    fn read_by(
+        &self,
+        alloc: Global,
+        reported: Option<ByteStrings>,
+        elsewhere: Read,
+    ) -> Result<Read, AllocError> {
+        let Read { names, is_whole } = elsewhere;
+        let is_whole = is_whole || reported.is_some();
+        let Some(names) = names else {
+            return Ok(Read {
+                names: reported,
+                is_whole,
+            });
+        };
+        let reported = match reported {
+            Some(reported) => reported,
+            None => ByteStrings::empty(alloc),
+        };
+        let target = self.target.as_slice();
+        let hidden = hidden_by(alloc, target, &self.known, &reported, &names)?;
+        Ok(Read {
+            names: Some(hidden),
+            is_whole,
+        })
+    }
+
     // Whether a compiler was told to write elsewhere what the report was to have.
     fn is_told_elsewhere(&self) -> bool {
         self.report.is_some() && self.commands.iter().any(|command| tells_elsewhere(command))
@@ -137,6 +181,7 @@ impl EndNote {
             removes: _,
             before: _,
             looked: _,
+            depfiles: _,
         } = self;
         let Files {
             others: _,
@@ -168,19 +213,24 @@ impl EndNote {
         Ok(Ok(()))
     }
 
-    // The hidden names of a recipe that passed, or why the report can't be taken or the target's file isn't on the disk.
-    fn hidden_once_synced<P: Place>(
+    // What a recipe that passed has read, or why a report of that can't be taken or the target's file isn't on the disk.
+    fn read_once_synced<P: Place>(
         &self,
         alloc: Global,
         key: HashKey,
         place: &P,
-    ) -> Result<Result<Option<ByteStrings>, NotDone>, AllocError> {
-        let hidden = match self.hidden(alloc, key, place)? {
-            Ok(hidden) => hidden,
+    ) -> Result<Result<Read, NotDone>, AllocError> {
+        let reported = match self.hidden(alloc, key, place)? {
+            Ok(reported) => reported,
             Err(not_done) => return Ok(Err(not_done)),
         };
+        let elsewhere = match self.read_depfiles(alloc, place)? {
+            Ok(elsewhere) => elsewhere,
+            Err(not_done) => return Ok(Err(not_done)),
+        };
+        let read = self.read_by(alloc, reported, elsewhere)?;
         match self.synced(place)? {
-            Ok(()) => Ok(Ok(hidden)),
+            Ok(()) => Ok(Ok(read)),
             Err(not_done) => Ok(Err(not_done)),
         }
     }
@@ -240,21 +290,22 @@ impl EndNote {
         }
     }
 
-    // The record of a recipe that passed, whose files are on the disk, and whose report has these hidden names, if there is one.
+    // The record of a recipe that passed, whose files are on the disk, and which has read this.
     fn passed<P: Place, E: Earlier>(
         self,
         alloc: Global,
         place: &P,
         run: &E,
-        reported: Option<ByteStrings>,
+        read: Read,
     ) -> Result<Last, AllocError>
         ensures good { IfOk result (λ l. IfSome l.record (λ note. IsGoodIn self.form note)) }
         ensures end { IfOk result (λ l. IfSome l.record (λ note. IsEndOf self.form Done self.target self.commands self.files.explicit
             (AreMarksOf (P.told place.now) (E.said run.now) self.target self.files self.looked) note)) }
         ensures same { IfOk result (λ l. l.is_same ≡ true → IsLeftSame (P.told place.now) self.target self.files self.looked) }
     {
-        let unreported = reported.is_none() && self.is_told_elsewhere();
-        let hidden = match reported {
+        let Read { names, is_whole } = read;
+        let unreported = !is_whole && self.is_told_elsewhere();
+        let hidden = match names {
             Some(hidden) => hidden,
             None => ByteStrings::empty(alloc),
         };
@@ -284,8 +335,8 @@ impl EndNote {
             let removed = self.failure(place, status);
             return Ok(self.into_failed(status, removed));
         }
-        match self.hidden_once_synced(alloc, key, place)? {
-            Ok(reported) => self.passed(alloc, place, run, reported),
+        match self.read_once_synced(alloc, key, place)? {
+            Ok(read) => self.passed(alloc, place, run, read),
             Err(not_done) => Ok(self.into_failed(NOT_TAKEN, Some(not_done))),
         }
     }

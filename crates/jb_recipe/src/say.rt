@@ -3,6 +3,7 @@
 use crate::NotDone;
 use bd_lists::Ended;
 use mk_plan::{LinePlace, RecipeFault};
+use mk_recipe::Outcome;
 
 /// What a run has to tell about its targets, on standard error.
 #[derive(Clone, Copy)]
@@ -45,12 +46,12 @@ pub enum News<'a> {
 pub enum Step<'a> {
     /// So many recipes are to be run, as far as is known before the first one is.
     Planned(usize),
-    /// A recipe begins.
-    Begins,
+    /// The recipe of this target begins.
+    Begins(&'a [u8]),
     /// A line of a recipe is about to be run, whether it is printed or not.
     Runs(&'a [u8]),
-    /// A recipe has ended, as it may.
-    Ends,
+    /// The lines of its recipe came to this. What it left may be a fault yet.
+    Ends(&'a [u8], Outcome),
 }
 
 /// What prints. It is called while no lock of the run is held, by several threads, so it takes a lock of its own.

@@ -110,6 +110,7 @@ impl<D: Disk + Drop, E: Exec<Receipt>, S: Say, P: Place> Bench<'_, D, E, S, P> {
         let spoken = Spoken {
             exec: self.exec,
             say: self.say,
+            target: note.target(),
         };
         let slot = self.slots.acquire(rt, bank);
         let ran = run_recipe(

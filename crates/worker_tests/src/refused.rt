@@ -117,6 +117,7 @@ fn tried<R: Wait + Clock + Copy>(
     let spoken = Spoken {
         exec: fake,
         say: fake,
+        target: b"t",
     };
     run_recipe(alloc, clearance, recipe, None, fake, slot, &spoken)
 }
