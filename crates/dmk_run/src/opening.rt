@@ -4,7 +4,7 @@ ghost use Rattle.st_disk.specs.Moments.{now, Throughout};
 ghost use Rattle.st_disk.specs.Faults.{Rises};
 ghost use Rattle.st_recovery.specs.Recovers.{RecoversIn};
 ghost use Rattle.st_recovery.specs.Stored.{AllRecoverIn};
-ghost use Rattle.st_state.specs.Keepable.{kept_bytes};
+ghost use Rattle.st_state.specs.Keepable.{kept_bytes_in};
 ghost use Rattle.st_file.specs.declared.commit_fault.CommitFault.TheVariants as commits;
 ghost use Rattle.st_disk.specs.declared.which.Which.TheVariants as sides;
 ghost use Rattle.bd_flusher.specs.declared.fault.FlushFault.TheVariants as refusals;
@@ -55,13 +55,13 @@ pub(crate) fn disk_of_store<D: Disk + Drop>(store: StoreIn<D>) -> D
     disk_of(log)
 }
 
-/// Whether a side that ends there is as short as a compaction may leave it: it isn't long, or more than half of it would be kept.
-/// It takes no memory.
-fn is_compact(state: &State, end: usize) -> bool
-    ensures { IsTrue result ↔ ((end ≤ 2 ^ 20) ⊎ (end < 2 * kept_bytes state.now)) }
+/// Whether a side of this form that ends there is as short as a compaction may leave it: it isn't long, or more than half of it would be
+/// kept. It takes no memory.
+fn is_compact(form: Form, state: &State, end: usize) -> bool
+    ensures { IsTrue result ↔ ((end ≤ 2 ^ 20) ⊎ (end < 2 * kept_bytes_in form state.now)) }
 {
-    // The room of half the side ends the count as soon as more than half would be kept.
-    end <= LONG || state.room_after_kept(end / 2).is_none()
+    // The room of half the side ends the count as soon as more than half would be kept. Marks count, which may be more than all else.
+    end <= LONG || state.room_after_kept_in(form, end / 2).is_none()
 }
 
 /// What a refused compaction comes to: it is passed over, unless the device refused it or the side is of an older form, which has
@@ -90,13 +90,13 @@ fn compact_at_opening<D: Disk + Drop>(alloc: Global, store: &mut StoreIn<D>) -> 
         (D.honest → StandsInOlder store.old.newest (D.seen store.new.log.disk) (now (D.moments store.new.log.disk)) store.new.state)) }
     // A side of the newest form that is short, or of which more than half would be left, stays as it is.
     ensures unneeded { store.old.log.form ≡ store.old.newest
-        → (store.old.log.end ≤ 2 ^ 20) ⊎ (store.old.log.end < 2 * kept_bytes store.old.state) → IsOk result × (store.new.log ≡ store.old.log) }
+        → (store.old.log.end ≤ 2 ^ 20) ⊎ (store.old.log.end < 2 * kept_bytes_in store.old.newest store.old.state) → IsOk result × (store.new.log ≡ store.old.log) }
     ensures device { IsErrOf result (run_faults.Flush refusals.Device)
         → Rises (D.faults store.old.log.disk) (D.faults store.new.log.disk) }
 {
     let (form, newest, end) = (store.log.form, store.newest, store.log.end);
     let is_old = form != newest;
-    if !is_old && is_compact(&store.state, end) {
+    if !is_old && is_compact(newest, &store.state, end) {
         return Ok(());
     }
     match compact_in(alloc, store) {
