@@ -8,6 +8,7 @@ use bd_lists::Variable;
 use dmk_host::{
     FolderFault, SignFault, ask, enter, held_streams, keep_blocks, needs_usual_makefile,
     print_other_makefile, print_word_notes, read_input, run_anew, tell, tell_fault, with_signs,
+    with_state_below,
 };
 use dmk_messages::{Fault, Message};
 use dmk_reading::{Mode, Options, value_of};
@@ -137,6 +138,7 @@ fn run_in<R: Threads + Wait + Sync>(
         }
     };
     let environment = with_flags_seen(host.alloc(), &options, later, environment)?;
+    let options = with_state_below(host, options, &environment)?;
     run_with(rt, host, options, later, &environment, input)
 }
 

@@ -1,6 +1,6 @@
 //! The lock on a state: on an empty file beside it, which stays. Recipes inherit a handle to it, and so hold the lock too.
 
-use dmk_host::{LockFile, Tried, is_open_above, is_over};
+use dmk_locks::{LockFile, Tried, is_open_above, is_over, lock_path};
 use dmk_run::{Guard, Hold};
 use jb_host::HeldLock;
 use std::alloc::AllocError;
@@ -52,21 +52,6 @@ impl From<io::Error> for LockFault {
             _ => LockFault::NotToBeHad(error),
         }
     }
-}
-
-/// The path of the lock on the state of this name: beside the file, and of a link beside what it leads to, so that a state has one
-/// lock under all its names.
-fn lock_path(rt: HostRuntime, state: &str) -> Result<String, AllocError> {
-    let alloc = rt.alloc();
-    if let Ok(found) = fs::symlink_metadata(&rt, state) {
-        if found.is_symlink() {
-            if let Ok(led_to) = fs::canonicalize(&rt, state) {
-                let led_to = led_to.into_string();
-                return format!(in alloc; "{led_to}.lock");
-            }
-        }
-    }
-    format!(in alloc; "{state}.lock")
 }
 
 impl LockPlace {

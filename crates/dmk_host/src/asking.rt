@@ -10,6 +10,7 @@ use crate::options_again::options_again;
 use crate::reasons::{needs_usual_makefile, print_gnu_makefile, print_notes, print_reasons};
 use crate::shell_asked::ShellSource;
 use crate::standard_streams::with_patience;
+use crate::state_below::with_locks_told;
 use bd_lists::Variable;
 use dmk_dry::{AlwaysRun, drive};
 use dmk_files::FileTexts;
@@ -310,6 +311,17 @@ fn look_and_shell(
     Ok((look, shell))
 }
 
+/// What the lines that are run all the same have in their environment, beside dmk's own.
+fn beside_lines(
+    host: HostRuntime,
+    options: &Options,
+    later: Later,
+    environment: &[Variable],
+) -> Result<Vec<Variable>, AllocError> {
+    let env = beside_recipes(host, options, later, environment)?;
+    with_locks_told(host, options, environment, env)
+}
+
 /// Lists what a run would make, or asks whether there is anything. A run that writes the state meanwhile may make a reading of it fail;
 /// so a fault is told once two looks, one behind the other, have come to the same. The lines that are run all the same are those of the
 /// last look, and are run once.
@@ -322,7 +334,7 @@ pub fn ask(
 ) -> Result<u8, AllocError>
     requires { AsksToLook options (value_in environment.now (codes "MAKEFLAGS")) }
 {
-    let env = match beside_recipes(host, &options, later, environment) {
+    let env = match beside_lines(host, &options, later, environment) {
         Ok(env) => env,
         Err(error) => {
             drop(options);

@@ -1,5 +1,6 @@
 //! What the words ask for, read once more.
 use crate::signs::{SignFault, with_signs};
+use crate::state_below::with_state_below;
 use bd_lists::Variable;
 use dmk_reading::Options;
 use dmk_words::{Asked, Later, Request, read_words, with_environment};
@@ -28,7 +29,7 @@ fn options_with(
     let options = with_environment(host.alloc(), later, options, environment)?;
     let before = later.definitions_before(options.profile, environment);
     match with_signs(host, options, before, environment, false) {
-        Ok(options) => Ok(Some(options)),
+        Ok(options) => Ok(Some(with_state_below(host, options, environment)?)),
         Err(SignFault::OutOfMemory) => Err(AllocError),
         Err(_) => Ok(None),
     }

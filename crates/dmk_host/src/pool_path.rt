@@ -1,6 +1,6 @@
 //! The name of the FIFO that dmk serves, which no other run serves meanwhile.
 
-use crate::lock_file::{LockFile, Tried, is_refusal};
+use dmk_locks::{LockFile, Tried, is_refusal};
 use jb_runner::{Source, source_of};
 use mk_profile::Profile;
 use std::alloc::AllocError;

@@ -1,0 +1,10 @@
+//! Locks of runs: empty files that stand for what a lock is of, and what those below are told of the locks that runs hold.
+#![tactic(auto)]
+
+mod levels;
+mod lock_file;
+mod run_name;
+
+pub use levels::{first_free, lock_path, told_below};
+pub use lock_file::{LockFile, Tried, is_refusal};
+pub use run_name::{is_open_above, is_over};
