@@ -1,6 +1,8 @@
 //! The functions, by the names that GNU make has for them.
+use crate::arguments::{argument, number_fault};
 use crate::conditionals::say_taken;
 use crate::depfiles::{say_names, say_place};
+use crate::expansions::Setting;
 use mk_words::{
     NumberFault, add_prefix, add_suffix, basename, dir, filter, filter_out, find_string,
     first_word, join, last_word, notdir, patsubst, sort, strip, subst, suffix, word, word_count,
@@ -9,17 +11,21 @@ use mk_words::{
 use row_files::{Answered, Calls, Report, RowFault, Setup, Words, World, bytes};
 use std::alloc::{AllocError, Global};
 
-/// Rows that need nothing before their first call.
+/// What a row sets up is for its expansions; other calls need nothing.
 #[derive(Drop)]
-pub(crate) struct Functions;
+pub(crate) struct Functions {
+    setting: Setting,
+}
 
 impl<'a> Setup<'a> for Functions {
-    fn new(_alloc: Global) -> Functions {
-        Functions
+    fn new(alloc: Global) -> Functions {
+        Functions {
+            setting: Setting::new(alloc),
+        }
     }
 
-    fn takes(&mut self, _alloc: Global, _line: &'a str) -> Result<bool, RowFault> {
-        Ok(false)
+    fn takes(&mut self, alloc: Global, line: &'a str) -> Result<bool, RowFault> {
+        self.setting.takes(alloc, line)
     }
 
     fn are_met(
@@ -32,21 +38,11 @@ impl<'a> Setup<'a> for Functions {
     }
 }
 
-/// The next argument of a call.
-fn argument(alloc: Global, words: &mut Words<'_>) -> Result<Vec<u8>, RowFault> {
-    match words.next() {
-        "nothing" => Ok(Vec::new(alloc)),
-        word => bytes::read(alloc, word),
-    }
-}
-
 /// The words that numbers name, or what is wrong with these.
 fn say_found(out: &mut String, found: Result<&[u8], NumberFault>) -> Result<(), AllocError> {
     match found {
         Ok(text) => bytes::say_all(out, text),
-        Err(NumberFault::First) => out.push_str("first-is-no-number"),
-        Err(NumberFault::Second) => out.push_str("second-is-no-number"),
-        Err(NumberFault::Zero) => out.push_str("first-is-0"),
+        Err(fault) => out.push_str(number_fault(fault)),
     }
 }
 
@@ -112,6 +108,10 @@ fn made(alloc: Global, name: &str, words: &mut Words<'_>) -> Result<Vec<u8>, Row
 impl World for Functions {
     fn call(&mut self, alloc: Global, words: &mut Words<'_>, out: &mut String) -> Answered {
         match words.next() {
+            "expand" => {
+                let text = argument(alloc, words)?;
+                self.setting.say_value(alloc, text.as_slice(), out)?;
+            }
             "lines" => {
                 let text = argument(alloc, words)?;
                 say_taken(alloc, text.as_slice(), out)?;

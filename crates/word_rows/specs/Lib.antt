@@ -1,0 +1,2 @@
+-- Variables: what a name stands for in a row.
+pub mod Variables
