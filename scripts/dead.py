@@ -30,15 +30,14 @@ WAITING = {
 }
 WAITING_EXPORTS = {
     "bl_log": {"CriticalPath", "Ranked", "Span", "busy", "by_time", "critical_path", "lanes"},
+    "dmk_host": {"locks_above"},
     "jb_flags": {"Jobs", "jobs_of", "push_quoted"},
     "jb_marks": {"Known", "MemorySights", "Placed", "is_same"},
     "jb_recipe": {"Files"},
     "jb_slots": {"Fifo", "FifoBank", "dry"},
     "mk_conditionals": {"BodyLine", "DirectiveLine", "Reading", "body_line"},
     "mk_eval": {"MAX_INCLUDE_DEPTH"},
-    "mk_functions": {
-        "Definitions", "Fault", "Flavor", "MAX_CALLS", "MAX_PIECES", "MAX_VALUE", "Origin", "Outside", "Stop", "Variable",
-    },
+    "mk_functions": {"MAX_CALLS", "MAX_PIECES", "MAX_VALUE"},
     "mk_graph": {"distinct_names", "order_nodes", "whole_plan"},
     "mk_macros": {"FUNCTIONS"},
     "mk_marks": {"mark_of"},

@@ -18,7 +18,7 @@ STRING = r'"((?:[^"\\]|\\.)*)"'
 # Programs of tests, whose texts no user of dmk reads.
 TEST_CRATES = {"board_rows", "call_rows", "disk_rows", "record_rows", "row_files", "store_rows", "word_rows", "worker_tests"}
 # No program stands on these yet.
-LATER_CRATES = {"mk_depfiles"}
+LATER_CRATES = set()
 
 # Texts of errors that are answered by others: those of a record become 'damaged at byte N' or 'cannot be recorded', those of
 # a report the note on the target, those of a commit 'state not written: ..', and that of a look names what was looked at.
