@@ -22,6 +22,7 @@ names_found : (profile : Profile) (name : SpecialName) → is_known profile name
 unfolding special_name
 names_found profiles.Strict special.NotParallel e = absurd (cc e)
 names_found profiles.Strict special.DeleteOnError e = absurd (cc e)
+names_found profiles.Strict special.Depfile e = absurd (cc e)
 names_found profiles.Strict special.OneShell e = absurd (cc e)
 names_found profiles.Strict special.SecondExpansion e = absurd (cc e)
 names_found profiles.Strict special.ExportAllVariables e = absurd (cc e)

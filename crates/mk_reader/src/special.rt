@@ -35,13 +35,14 @@ pub enum SpecialName {
     // These are the wide profile's alone, and ordinary names in the strict one.
     NotParallel,
     DeleteOnError,
+    Depfile,
     // So are these, and they are refused.
     OneShell,
     SecondExpansion,
     ExportAllVariables,
 }
 
-const ALL: [SpecialName; 24] = [
+const ALL: [SpecialName; 25] = [
     SpecialName::KeepState,
     SpecialName::Suffixes,
     SpecialName::NoParallel,
@@ -63,6 +64,7 @@ const ALL: [SpecialName; 24] = [
     SpecialName::Phony,
     SpecialName::NotParallel,
     SpecialName::DeleteOnError,
+    SpecialName::Depfile,
     SpecialName::OneShell,
     SpecialName::SecondExpansion,
     SpecialName::ExportAllVariables,
@@ -95,6 +97,7 @@ impl SpecialName {
             SpecialName::Phony => ".PHONY",
             SpecialName::NotParallel => ".NOTPARALLEL",
             SpecialName::DeleteOnError => ".DELETE_ON_ERROR",
+            SpecialName::Depfile => ".DEPFILE",
             SpecialName::OneShell => ".ONESHELL",
             SpecialName::SecondExpansion => ".SECONDEXPANSION",
             SpecialName::ExportAllVariables => ".EXPORT_ALL_VARIABLES",
@@ -119,6 +122,7 @@ fn is_known(profile: Profile, name: SpecialName) -> bool
     match name {
         SpecialName::NotParallel
         | SpecialName::DeleteOnError
+        | SpecialName::Depfile
         | SpecialName::OneShell
         | SpecialName::SecondExpansion
         | SpecialName::ExportAllVariables => profile.is_wide(),

@@ -1,9 +1,9 @@
 -- What is to be made, and what the special targets set.
-use Rattle.std.specs.Prelude.{◌≡◌, ℕ, Bool, true, false, not, ◌&&◌, ◌==◌, List, [], ◌∷◌, ◌++◌, take, filter, flat_map, Option, Some}
+use Rattle.std.specs.Prelude.{◌≡◌, ℕ, Bool, true, false, not, ◌&&◌, ◌==◌, List, [], ◌∷◌, ◌++◌, take, filter, flat_map, Option, Some, None, if◌then◌else◌}
 use Rattle.std.specs.List.{All, list_any}
 use Rattle.mk_macros.specs.Spelled.{Lacks}
 use Rattle.mk_reader.specs.declared.special.SpecialName.{SpecialName}
-use Rattle.mk_reader.specs.declared.special.SpecialName.TheVariants.{KeepState, NoParallel, NotParallel, DeleteOnError}
+use Rattle.mk_reader.specs.declared.special.SpecialName.TheVariants.{KeepState, NoParallel, NotParallel, DeleteOnError, Depfile}
 use Rattle.mk_rule_lines.specs.Kinds.{IsRule, IsPatternRule, IsSuffixRule}
 use Rattle.mk_rule_lines.specs.Marks.{marked_by}
 use Rattle.mk_rule_lines.specs.Rules.{suffixes_of, is_rule, is_pattern_rule, is_suffix_target}
@@ -100,9 +100,21 @@ abbrev pub is_delete_on_error : Option SpecialName → Bool
 is_delete_on_error (Some DeleteOnError) = true
 is_delete_on_error _ = false
 
+abbrev pub is_depfile : Option SpecialName → Bool
+is_depfile (Some Depfile) = true
+is_depfile _ = false
+
 -- some line is of such a special rule
 abbrev pub has_special : (is_it : Option SpecialName → Bool) → List RuleLine → Bool
 has_special is_it lines = list_any (λ l. is_it l.special) lines
+
+-- the patterns of a line of `.DEPFILE`
+abbrev pub depfile_patterns : RuleLine → List (List ℕ)
+depfile_patterns l = if is_depfile l.special then l.prerequisites else []
+
+-- where recipes write what they read: nothing is said of it, or the patterns of all such lines, which may have none (own)
+abbrev pub depfiles_of : List RuleLine → Option (List (List ℕ))
+depfiles_of lines = if has_special is_depfile lines then Some (flat_map depfile_patterns lines) else None
 
 -- what the special targets of these lines set (make(1S), "Special-Function Targets"; `.NO_PARALLEL`: the dmake manual; `.NOTPARALLEL` and
 -- `.DELETE_ON_ERROR`: GNU make manual, "Special Built-in Target Names")
@@ -110,6 +122,7 @@ abbrev pub settings_of : List RuleLine → Settings
 settings_of lines = record {
   has_one_worker = has_special is_no_parallel lines;
   deletes_on_error = has_special is_delete_on_error lines;
+  depfiles = depfiles_of lines;
   ignored = marked_by Ignored lines;
   silent = marked_by Silent lines;
   precious = marked_by Precious lines;

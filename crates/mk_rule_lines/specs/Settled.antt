@@ -1,7 +1,7 @@
 -- What special rules set, taken in one line after the other.
-use Rattle.std.specs.Prelude.{[], false, ◌||◌, ◌++◌}
+use Rattle.std.specs.Prelude.{ℕ, List, [], false, ◌||◌, ◌++◌, Option, Some, None, if◌then◌else◌}
 use Rattle.mk_graph.specs.Numbering.{all_added}
-use Rattle.mk_rule_lines.specs.Goals.{is_no_parallel, is_delete_on_error}
+use Rattle.mk_rule_lines.specs.Goals.{is_no_parallel, is_delete_on_error, is_depfile}
 use Rattle.mk_rule_lines.specs.Marks.{speaks_of_all, names_in, patterns_in}
 use Rattle.mk_rule_lines.specs.declared.marked.Mark.{Mark}
 use Rattle.mk_rule_lines.specs.declared.marked.Mark.TheVariants.{Ignored, Silent, Precious}
@@ -20,10 +20,19 @@ marked_with m marked l = record {
   patterns = marked.patterns ++ patterns_in m l;
 }
 
+abbrev pub patterns_said : Option (List (List ℕ)) → List (List ℕ)
+patterns_said None = []
+patterns_said (Some patterns) = patterns
+
+-- where recipes write what they read, with one more line
+abbrev pub depfiles_with : Option (List (List ℕ)) → RuleLine → Option (List (List ℕ))
+depfiles_with said l = if is_depfile l.special then Some (patterns_said said ++ l.prerequisites) else said
+
 abbrev pub nothing_set : Settings
 nothing_set = record {
   has_one_worker = false;
   deletes_on_error = false;
+  depfiles = None;
   ignored = nothing_marked;
   silent = nothing_marked;
   precious = nothing_marked;
@@ -34,6 +43,7 @@ abbrev pub settings_with : Settings → RuleLine → Settings
 settings_with s l = record {
   has_one_worker = s.has_one_worker || is_no_parallel l.special;
   deletes_on_error = s.deletes_on_error || is_delete_on_error l.special;
+  depfiles = depfiles_with s.depfiles l;
   ignored = marked_with Ignored s.ignored l;
   silent = marked_with Silent s.silent l;
   precious = marked_with Precious s.precious l;

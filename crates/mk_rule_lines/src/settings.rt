@@ -1,10 +1,11 @@
 //! What the special targets of a makefile set.
-ghost use Rattle.std.specs.Prelude.{◌≡◌, IfOk, OnOk};
-ghost use Rattle.mk_rule_lines.specs.Goals.{is_no_parallel, is_delete_on_error, settings_of};
-ghost use Rattle.mk_rule_lines.specs.Settled.{nothing_set, settings_with};
+ghost use Rattle.std.specs.Prelude.{◌≡◌, ◌++◌, IfOk, OnOk};
+ghost use Rattle.mk_rule_lines.specs.Goals.{is_no_parallel, is_delete_on_error, is_depfile, settings_of};
+ghost use Rattle.mk_rule_lines.specs.Settled.{depfiles_with, nothing_set, settings_with};
 
 use crate::marked::{Mark, Marked};
 use crate::rule_line::RuleLine;
+use byte_strings::ByteStrings;
 use mk_reader::SpecialName;
 use std::alloc::{AllocError, Global};
 
@@ -13,6 +14,9 @@ pub struct Settings {
     pub has_one_worker: bool,
     /// `.DELETE_ON_ERROR:`.
     pub deletes_on_error: bool,
+    /// The patterns of `.DEPFILE:`, by which recipes write what they read: none where nothing is said of it. A list without
+    /// patterns says that none do.
+    pub depfiles: Option<ByteStrings>,
     /// The targets of `.IGNORE:`.
     pub ignored: Marked,
     /// Those of `.SILENT:`.
@@ -26,6 +30,7 @@ impl Drop for Settings {
         let Settings {
             has_one_worker: _,
             deletes_on_error: _,
+            depfiles: _,
             ignored: _,
             silent: _,
             precious: _,
@@ -51,6 +56,44 @@ fn is_delete_on_error(line: &RuleLine) -> bool
     }
 }
 
+fn is_depfile(line: &RuleLine) -> bool
+    ensures { result ≡ is_depfile line.now.special }
+{
+    match line.special {
+        Some(SpecialName::Depfile) => true,
+        _ => false,
+    }
+}
+
+fn add_patterns(patterns: &mut ByteStrings, line: &RuleLine) -> Result<(), AllocError>
+    ensures { OnOk result (patterns.new ≡ patterns.old ++ line.now.prerequisites) }
+{
+    for word in line.prerequisites.iter() {
+        patterns.push(word)?;
+    }
+    Ok(())
+}
+
+/// Takes in what a line says of where recipes write what they read.
+fn add_depfiles(
+    alloc: Global,
+    depfiles: &mut Option<ByteStrings>,
+    line: &RuleLine,
+) -> Result<(), AllocError>
+    ensures { OnOk result (depfiles.new ≡ depfiles_with depfiles.old line.now) }
+{
+    if !is_depfile(line) {
+        return Ok(());
+    }
+    let mut patterns = match depfiles.take() {
+        Some(patterns) => patterns,
+        None => ByteStrings::empty(alloc),
+    };
+    add_patterns(&mut patterns, line)?;
+    *depfiles = Some(patterns);
+    Ok(())
+}
+
 impl Settings {
     /// Nothing set.
     fn none(alloc: Global) -> Settings
@@ -59,6 +102,7 @@ impl Settings {
         Settings {
             has_one_worker: false,
             deletes_on_error: false,
+            depfiles: None,
             ignored: Marked::none(alloc),
             silent: Marked::none(alloc),
             precious: Marked::none(alloc),
@@ -71,6 +115,7 @@ impl Settings {
     {
         self.has_one_worker = self.has_one_worker || is_no_parallel(line);
         self.deletes_on_error = self.deletes_on_error || is_delete_on_error(line);
+        add_depfiles(alloc, &mut self.depfiles, line)?;
         self.ignored.take_in(alloc, Mark::Ignored, line)?;
         self.silent.take_in(alloc, Mark::Silent, line)?;
         self.precious.take_in(alloc, Mark::Precious, line)?;
