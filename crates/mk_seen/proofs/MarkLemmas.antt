@@ -1,7 +1,7 @@
 -- Marks behind others.
 use Rattle.std.specs.Prelude.{if◌then◌else◌, ◌+◌, replicate, option_map, unwrap_or}
 use Rattle.std.specs.Option.{option_map_or}
-use Rattle.std.proofs.Common.{◌≡◌, ◌∙◌, ℕ, suc, Bool, true, false, List, [], ◌∷◌, map, length, Option, Some, None, refl, sym, ap}
+use Rattle.std.proofs.Common.{◌≡◌, ◌∙◌, ℕ, suc, Bool, true, false, List, [], ◌∷◌, map, length, Option, None, refl, sym, ap}
 use Rattle.mk_marks.specs.Marks.{later_marks, nothing_kept}
 use Rattle.mk_marks.specs.Noted.{noted}
 use Rattle.mk_marks.specs.declared.kept.Kept.{Kept}

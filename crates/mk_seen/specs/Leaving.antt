@@ -1,6 +1,7 @@
 -- The tests by which no file of a node is found to be a reason to make it.
 use Rattle.std.specs.Prelude.{ℕ, ℤ, Bool, true, false, not, ◌&&◌, ◌||◌, List, Option, Some, None, is_some}
 use Rattle.std.specs.List.{list_all}
+use Rattle.std.specs.Option.{option_map_or}
 use Rattle.std.specs.Str.{is_utf8}
 use Rattle.mk_graph.specs.Edges.{row}
 use Rattle.mk_graph.specs.Numbering.{name_at}
@@ -10,9 +11,9 @@ use Rattle.mk_verdict.specs.Tests.{is_later, mark_differs, is_timed}
 use Rattle.mk_verdict.specs.declared.mark.Look.{Look}
 use Rattle.mk_verdict.specs.declared.mark.Mark.{Mark}
 use Rattle.mk_marks.specs.declared.kept.Kept.{Kept}
-use Rattle.mk_seen.specs.Marks.{look_of, looks_made, with_marks, marks_behind, noted_in, noted_of, marks_of}
+use Rattle.mk_seen.specs.Marks.{look_of, looks_made, with_marks, marks_behind, noted_in, noted_of, marks_of, compared_in}
 use Rattle.mk_seen.specs.Names.{are_same}
-use Rattle.mk_seen.specs.Nodes.{stamp_of, made_of, hidden_of, explicit_of, is_marked}
+use Rattle.mk_seen.specs.Nodes.{stamp_of, made_of, hidden_of, is_marked}
 use Rattle.st_records.specs.Parts.{names_recorded}
 use Rattle.st_records.specs.declared.record.Entry.{Entry}
 use Rattle.st_records.specs.declared.record.Phase.{Phase}
@@ -56,10 +57,9 @@ leaves_all keeping graph marks n =
     && (leaves_prerequisites keeping graph marks n (marks_of graph n)
     && (not keeping || list_all (has_text_name graph) (hidden_of graph n))))
 
--- where the explicit prerequisites of node n are recorded, they are these
-abbrev pub is_explicit : Graph → (n : ℕ) → Option (List (List ℕ)) → Bool
-is_explicit graph n None = true
-is_explicit graph n (Some names) = are_same (explicit_of graph n) names
+-- where the explicit prerequisites of node n are recorded, they are those that are compared with them
+abbrev pub is_explicit : Graph → (n : ℕ) → Entry → Bool
+is_explicit graph n entry = option_map_or (are_same (compared_in graph n entry)) (names_recorded entry.explicit) true
 
 abbrev pub is_done : Phase → Bool
 is_done phase.Begun = false
@@ -68,4 +68,4 @@ is_done (phase.Failed status) = false
 
 -- the entry is that of a recipe that was run to its end, with the source and the explicit prerequisites of node n
 abbrev pub is_kept : Graph → (n : ℕ) → Entry → Bool
-is_kept graph n entry = is_done entry.phase && (not (noted_in graph n entry).source_changed && is_explicit graph n (names_recorded entry.explicit))
+is_kept graph n entry = is_done entry.phase && (not (noted_in graph n entry).source_changed && is_explicit graph n entry)

@@ -1,5 +1,5 @@
 -- What the state has of each file of a node, beside what a look at it tells now. Own.
-use Rattle.std.specs.Prelude.{ℕ, ◌+◌, ◌==◌, ℤ, Bool, not, ◌&&◌, false, if◌then◌else◌, List, [], ◌∷◌, length, map, Option, Some, None, option_map, option_and_then}
+use Rattle.std.specs.Prelude.{ℕ, ◌+◌, ◌==◌, ℤ, Bool, not, ◌&&◌, false, if◌then◌else◌, List, [], ◌∷◌, length, map, Option, Some, None, is_some, option_map, option_and_then}
 use Rattle.std.specs.Option.{option_map_or}
 use Rattle.mk_graph.specs.Edges.{row}
 use Rattle.mk_graph.specs.Numbering.{name_at}
@@ -15,7 +15,7 @@ use Rattle.mk_verdict.specs.declared.mark.Look.TheVariants.{NoFile, Other, File}
 use Rattle.mk_verdict.specs.declared.mark.MadeFile.{MadeFile}
 use Rattle.mk_verdict.specs.declared.mark.Mark.{Mark}
 use Rattle.mk_verdict.specs.declared.mark.Mark.TheVariants.{NotKept}
-use Rattle.mk_seen.specs.Names.{are_same}
+use Rattle.mk_seen.specs.Names.{are_known}
 use Rattle.mk_seen.specs.Nodes.{node_at, group_in, entry_of, hidden_of, explicit_of}
 use Rattle.st_records.specs.Parts.{names_known}
 use Rattle.st_records.specs.declared.record.Entry.{Entry}
@@ -81,13 +81,24 @@ nothing_noted = record { source_changed = false; kept = nothing_kept NotKept }
 abbrev pub noted_of : Graph → (n : ℕ) → Noted
 noted_of graph n = option_map_or (noted_in graph n) (entry_of graph n) nothing_noted
 
--- the entry has its prerequisites as they are now: the same source, the same names, and as many hidden ones, of which none has become a
--- hard one
+-- the entry has its prerequisites as they are now, in this order: the same source; the same explicit ones, behind which the first hidden
+-- ones may have become explicit; and all others still are hidden
 abbrev pub has_same_names : Graph → (n : ℕ) → Entry → Bool
 has_same_names graph n entry =
     not (noted_in graph n entry).source_changed
-    && (are_same (explicit_of graph n) (names_known entry.explicit)
-    && (length entry.hidden == length (hidden_of graph n)))
+    && (are_known (explicit_of graph n) (names_known entry.explicit) entry.hidden
+    && (length (names_known entry.explicit) + length entry.hidden == length (explicit_of graph n) + length (hidden_of graph n)))
+
+-- where marks are kept, its explicit prerequisites are those of the entry, though hidden ones may have become explicit
+abbrev pub is_as_recorded : Graph → (n : ℕ) → Entry → Bool
+is_as_recorded graph n entry = is_some (marks_text entry.explicit) && has_same_names graph n entry
+
+-- its explicit prerequisites, as they are compared with what is recorded
+abbrev pub compared_in : Graph → (n : ℕ) → Entry → List (List ℕ)
+compared_in graph n entry = if is_as_recorded graph n entry then names_known entry.explicit else explicit_of graph n
+
+abbrev pub compared_of : Graph → (n : ℕ) → List (List ℕ)
+compared_of graph n = option_map_or (compared_in graph n) (entry_of graph n) (explicit_of graph n)
 
 -- the marks of its prerequisites: those behind the marks of what its recipe makes, where the entry has these very prerequisites; else each
 -- mark is unknown, if any are kept

@@ -8,11 +8,10 @@ ghost use Rattle.mk_seen.specs.Nodes.{entry_of, hidden_of, made_of};
 ghost use Rattle.mk_seen.specs.TextNames.{HasTextNames};
 
 use crate::looks::{look_from, look_of, looks_beside};
-use crate::marks::marks_left;
+use crate::marks::{is_as_recorded, marks_left};
 use crate::names::are_names_of;
 use crate::nodes::{is_later, is_marked, made_of, name_of, stamp_of};
 use crate::text_names::is_text_name;
-use byte_strings::Iter;
 use mk_marks::{Kept, Noted};
 use mk_nodes::{FileLook, Graph};
 use mk_verdict::{Look, Mark};
@@ -230,11 +229,15 @@ pub fn leaves_all(
 }
 
 /// Whether the explicit prerequisites of a node are those that are recorded, where they are.
-fn is_explicit(graph: &Graph, node: usize, explicit: Option<Iter<'_>>) -> bool
-    requires { node < length graph.now.nodes.items }
-    ensures { result ≡ is_explicit graph.now node explicit.entry }
+fn is_explicit(graph: &Graph, node: usize, entry: &PackedEntry, source_changed: bool) -> bool
+    requires node { node < length graph.now.nodes.items }
+    requires source { source_changed ≡ (noted_in graph.now node entry.now).source_changed }
+    ensures { result ≡ is_explicit graph.now node entry.now }
 {
-    match explicit {
+    if is_as_recorded(graph, node, entry, source_changed) {
+        return true;
+    }
+    match entry.explicit() {
         None => true,
         Some(names) => are_names_of(graph, graph.explicit(node), names),
     }
@@ -256,5 +259,7 @@ pub fn is_kept(graph: &Graph, node: usize, entry: &PackedEntry, noted: &Noted<'_
     requires noted { noted.now ≡ noted_in graph.now node entry.now }
     ensures { result ≡ is_kept graph.now node entry.now }
 {
-    is_done(entry.phase()) && !noted.source_changed && is_explicit(graph, node, entry.explicit())
+    is_done(entry.phase())
+        && !noted.source_changed
+        && is_explicit(graph, node, entry, noted.source_changed)
 }

@@ -2,6 +2,7 @@
 //! state has.
 #![tactic(auto)]
 
+mod compared;
 mod leaving;
 mod looks;
 mod marks;
@@ -11,6 +12,7 @@ mod same;
 mod seen;
 mod text_names;
 
+pub use compared::compared_of;
 pub use leaving::{is_kept, leaves_all};
 pub use looks::look_of;
 pub use marks::{marks_of, noted_in};

@@ -2,11 +2,11 @@
 ghost use Rattle.std.specs.Prelude.{◌≡◌, ◌<◌, ℕ, List, length};
 ghost use Rattle.std.specs.Option.{option_copied};
 ghost use Rattle.mk_nodes.specs.Node.{hidden_by};
-ghost use Rattle.mk_seen.specs.Marks.{has_same_names, looks_made, marks_behind, marks_in, marks_of, marks_text, noted_in, source_name};
+ghost use Rattle.mk_seen.specs.Marks.{has_same_names, is_as_recorded, looks_made, marks_behind, marks_in, marks_of, marks_text, noted_in, source_name};
 ghost use Rattle.mk_seen.specs.Nodes.{hidden_of};
 
 use crate::looks::looks_beside;
-use crate::names::are_names_of;
+use crate::names::are_known;
 use crate::nodes::{entry_of, name_of};
 use mk_marks::{Kept, Noted, note_of};
 use mk_nodes::{FileLook, Graph, Node};
@@ -74,9 +74,25 @@ fn has_same_names(graph: &Graph, node: usize, entry: &PackedEntry, source_change
     requires source { source_changed ≡ (noted_in graph.now node entry.now).source_changed }
     ensures { result ≡ has_same_names graph.now node entry.now }
 {
+    let explicit = graph.explicit(node);
+    let recorded = entry.names().len() as u128 + entry.hidden().len() as u128;
     !source_changed
-        && are_names_of(graph, graph.explicit(node), entry.names())
-        && entry.hidden().len() == hidden_count(graph, node)
+        && are_known(graph, explicit, entry.names(), entry.hidden())
+        && recorded == explicit.len() as u128 + hidden_count(graph, node) as u128
+}
+
+/// Whether an entry has marks, and the prerequisites of a node as they are now.
+pub(crate) fn is_as_recorded(
+    graph: &Graph,
+    node: usize,
+    entry: &PackedEntry,
+    source_changed: bool,
+) -> bool
+    requires node { node < length graph.now.nodes.items }
+    requires source { source_changed ≡ (noted_in graph.now node entry.now).source_changed }
+    ensures { result ≡ is_as_recorded graph.now node entry.now }
+{
+    marks_text(entry).is_some() && has_same_names(graph, node, entry, source_changed)
 }
 
 /// Takes the marks of the files that are made beside a node.

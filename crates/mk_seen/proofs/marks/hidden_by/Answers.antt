@@ -1,5 +1,5 @@
 use Rattle.std.specs.Prelude.{option_map, unwrap_or, replicate}
-use Rattle.std.proofs.Common.{◌∙◌, true, List, length, sym, ap}
+use Rattle.std.proofs.Common.{◌∙◌, true, length, sym, ap}
 use Rattle.std.proofs.lemmas.List.{length-replicate}
 use Rattle.mk_seen.proofs.MarkLemmas.{length-hidden}
 use Rattle.mk_seen.proofs.marks.hidden_by.Goals as goal

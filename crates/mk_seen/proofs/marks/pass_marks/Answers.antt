@@ -1,4 +1,4 @@
-use Rattle.std.proofs.Common.{◌≡◌, ◌∙◌, ◌+◌, ◌<◌, ℕ, suc, add-one, List, ◌∷◌, length, drop, get_or, None, refl, sym, ap}
+use Rattle.std.proofs.Common.{◌≡◌, ◌∙◌, ◌+◌, ◌<◌, ℕ, add-one, List, ◌∷◌, length, drop, get_or, None, refl, sym, ap}
 use Rattle.std.proofs.Math.Seq.{drop-cons}
 use Rattle.mk_marks.specs.Marks.{later_marks}
 use Rattle.mk_marks.specs.declared.kept.Kept.{Kept}
