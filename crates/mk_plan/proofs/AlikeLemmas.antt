@@ -39,7 +39,7 @@ use Rattle.mk_plan.specs.Passing.{Passes, is_to_be_run, is_up_to_date, has_no_re
 use Rattle.mk_plan.specs.Words.{in_wide, implied_names, written_of, order_only_words}
 use Rattle.mk_plan.specs.Why.{IsWhy, judged_names, words_by, gone_number}
 use Rattle.mk_plan.specs.declared.why.Why.{Why}
-use Rattle.mk_plan.proofs.SeenLemmas.{turned, same_noted, same_files, same_marks, seen_in}
+use Rattle.mk_plan.proofs.SeenLemmas.{turned, same_noted, same_files, same_compared, same_marks, seen_in}
 pub use Rattle.mk_plan.proofs.SeenLemmas.{AreAlike}
 
 -- ---- what is newer, and what ends as remade
@@ -175,7 +175,7 @@ module _ (a b : Graph) (same : AreAlike a b) (marks : List Bool) (n : ℕ) where
   target_in : (lines : List Line) (target : Target) → IsTargetOf a marks n lines target → IsTargetOf b marks n lines target
   target_in lines target is = record {
     commands = is.commands;
-    explicit = is.explicit ∙ same.explicit n;
+    explicit = is.explicit ∙ same_compared a b same marks n;
     stamp = is.stamp ∙ same.made n;
     prerequisites = is.prerequisites ∙ seen_in a b same marks n;
     ordered = is.ordered ∙ ap not same.dropped;
@@ -198,7 +198,7 @@ module _ (a b : Graph) (same : AreAlike a b) (marks : List Bool) (n : ℕ) where
   why_in : (keeping : Bool) (target : Target) (why : Why) → IsWhy keeping a n target why → IsWhy keeping b n target why
   why_in keeping target why is = record {
     first = subst (λ e. IsFirstReason keeping e target why.reason) (same.entry n) is.first;
-    words = is.words ∙ words_in_both target why.reason (gone_number why.reason);
+    words = is.words ∙ words_in_both target why.reason (gone_number target.prerequisites.now why.reason);
   }
 
   commands_in_both : commands_of a n ≡ commands_of b n

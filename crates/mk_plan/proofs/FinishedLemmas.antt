@@ -2,6 +2,7 @@
 use Rattle.std.specs.Prelude.{IsSomeAnd, if◌then◌else◌, slice_get, is_none, is_some, option_map}
 use Rattle.std.specs.Bool.{OnTrue}
 use Rattle.std.specs.List.{list_all}
+use Rattle.std.specs.Option.{option_map_or}
 use Rattle.std.specs.Str.{bytes_eq, is_utf8}
 use Rattle.std.proofs.Common.{◌≡◌, ◌∙◌, ℕ, zero, suc, ℤ, Bool, true, false, not, ◌&&◌, ◌||◌, List, [], ◌∷◌, ◌++◌, map, Option, Some, None, refl, sym, ap, subst, inl, inr, Result, Ok, Err, IfOk, ◌≢◌}
 use Rattle.std.proofs.lemmas.List.{append-nil}
@@ -31,7 +32,7 @@ use Rattle.mk_verdict.specs.declared.verdict.Reason.TheVariants.{NoEntry, WasBeg
 use Rattle.mk_verdict.specs.declared.verdict.Target.{Target}
 use Rattle.mk_seen.proofs.MarkLemmas.{noted_at}
 use Rattle.mk_seen.specs.Leaving.{leaves_hard, leaves_hidden, leaves_made, leaves_prerequisites, has_text_name, leaves_all, is_explicit, is_done, is_kept}
-use Rattle.mk_seen.specs.Marks.{looks_made, with_marks, marks_behind, noted_in, noted_of, marks_of, made_file, files_of, hard_marked, hidden_marked}
+use Rattle.mk_seen.specs.Marks.{looks_made, with_marks, marks_behind, noted_in, noted_of, compared_in, compared_of, marks_of, made_file, files_of, hard_marked, hidden_marked}
 use Rattle.mk_seen.specs.Names.{are_same}
 use Rattle.mk_seen.specs.Nodes.{stamp_of, made_of, entry_of, hidden_of, explicit_of, is_marked}
 use Rattle.mk_seen.specs.Seen.{Seen, shown, seen_hard, seen_hidden, seen_of}
@@ -181,10 +182,11 @@ same_names (name ∷ names) (r ∷ recorded) is =
     let (here, rest) = both (bytes_eq r name) (are_same names recorded) is in
     ap (λ n. n ∷ recorded) ((bytes_eq-Decides r name).0 here) ∙ ap (λ ns. name ∷ ns) (same_names names recorded rest)
 
-same_explicit : (graph : Graph) (n : ℕ) (explicit : Option (List (List ℕ))) (names : List (List ℕ)) → explicit ≡ Some names → is_explicit graph n explicit ≡ true → names ≡ explicit_of graph n
-same_explicit graph n None names known is = absurd cc
-same_explicit graph n (Some kept) names known is =
-    let same : kept ≡ names = cc in sym same ∙ same_names (explicit_of graph n) kept is
+same_explicit : (compared : List (List ℕ)) (recorded : Option (List (List ℕ))) (names : List (List ℕ)) → recorded ≡ Some names →
+    option_map_or (are_same compared) recorded true ≡ true → names ≡ compared
+same_explicit compared None names known is = absurd cc
+same_explicit compared (Some kept) names known is =
+    let same : kept ≡ names = cc in sym same ∙ same_names compared kept is
 
 done_is : (ph : Phase) → is_done ph ≡ true → ph ≡ phase.Done
 done_is phase.Begun e = absurd cc
@@ -213,7 +215,7 @@ module _ (keeping : Bool) (graph : Graph) (marks : List Bool) (n : ℕ) where
   abbrev target_of : (commands : List (List ℕ)) → Target
   target_of commands = record {
     commands = record { ref_ptr = (0, 0); now = commands };
-    explicit = record { ref_ptr = (0, 0); now = explicit_of graph n };
+    explicit = record { ref_ptr = (0, 0); now = compared_of graph n };
     stamp = made_of graph n;
     prerequisites = record { ref_ptr = (0, 0); now = prerequisites };
     orders_hidden = not graph.soft_dropped;
@@ -274,8 +276,8 @@ module _ (keeping : Bool) (graph : Graph) (marks : List Bool) (n : ℕ) where
     is_over : entry.phase ≡ phase.Done
     is_over = done_is entry.phase (both (is_done entry.phase) _ kept).0
 
-    of_names : (not (noted_in graph n entry).source_changed ≡ true) × (is_explicit graph n (names_recorded entry.explicit) ≡ true)
-    of_names = both (not (noted_in graph n entry).source_changed) (is_explicit graph n (names_recorded entry.explicit)) (both (is_done entry.phase) _ kept).1
+    of_names : (not (noted_in graph n entry).source_changed ≡ true) × (is_explicit graph n entry ≡ true)
+    of_names = both (not (noted_in graph n entry).source_changed) (is_explicit graph n entry) (both (is_done entry.phase) _ kept).1
 
     same_source : (noted_of graph n).source_changed ≡ true → ⊥
     same_source changed =
@@ -283,7 +285,9 @@ module _ (keeping : Bool) (graph : Graph) (marks : List Bool) (n : ℕ) where
 
     same_prerequisites : HasOtherNames (target_of entry.commands) entry → ⊥
     same_prerequisites (inl changed) = same_source changed
-    same_prerequisites (inr (names, known, others)) = others (same_explicit graph n (names_recorded entry.explicit) names known of_names.1)
+    same_prerequisites (inr (names, known, others)) =
+        others (same_explicit (compared_in graph n entry) (names_recorded entry.explicit) names known of_names.1
+        ∙ sym (ap (λ e. option_map_or (compared_in graph n) e (explicit_of graph n)) at))
 
     no_reason : (reason : Reason) → Holds keeping (entry_of graph n) (target_of entry.commands) reason → ⊥
     no_reason NoEntry (k, none) = some_none entry (sym at ∙ none)

@@ -1,9 +1,9 @@
 -- What the state, the marks and the graph say of a node is one thing: its names, its lines, its target and how it is passed.
 use mathlib.Core.Path.{fun_ext}
-use Rattle.std.specs.Prelude.{◌↔◌, ◌==◌, IsTrue, IsSomeAnd, slice_get, option_map, codes, encode_utf8_all, if◌then◌else◌}
+use Rattle.std.specs.Prelude.{◌↔◌, ◌==◌, IsTrue, IsSomeAnd, is_none, slice_get, option_map, codes, encode_utf8_all, if◌then◌else◌}
 use Rattle.std.specs.List.{join_with_byte}
 use Rattle.std.specs.Str.{is_utf8}
-use Rattle.std.proofs.Common.{◌≡◌, ◌≢◌, ◌⊎◌, ◌∙◌, ℕ, Bool, true, false, List, [], ◌∷◌, ◌++◌, map, Option, Some, None, refl, sym, ap, subst}
+use Rattle.std.proofs.Common.{◌≡◌, ◌≢◌, ◌⊎◌, ◌∙◌, ℕ, Bool, true, false, not, ◌&&◌, List, [], ◌∷◌, ◌++◌, map, Option, Some, None, refl, sym, ap, subst}
 use Rattle.std.proofs.lemmas.Option.{same_Some, slice_get-map}
 use Rattle.bstr.specs.Utf8.{lossy_chars}
 use Rattle.mk_graph.specs.Numbering.{name_at}
@@ -38,7 +38,7 @@ use Rattle.mk_plan.specs.Recipe.{IsExpandedLine, AreExpanded, AreNames, recipe_m
 use Rattle.mk_plan.specs.Target.{IsTargetOf}
 use Rattle.mk_plan.specs.Passage.{Passage, to_make, commands_of}
 use Rattle.mk_plan.specs.Passing.{Passes, is_to_be_run, is_up_to_date, has_no_recipe, is_left}
-use Rattle.mk_plan.specs.Why.{IsWhy, words_of}
+use Rattle.mk_plan.specs.Why.{IsWhy, is_none_left, words_by, words_of}
 use Rattle.mk_plan.specs.declared.why.Why.{Why}
 use Rattle.mk_plan.proofs.NodeLemmas.{same_newer}
 
@@ -206,6 +206,20 @@ name_alike ps qs i same =
     ∙ ap shown_name (sym (slice_get-map shown ps i) ∙ ap (λ xs. slice_get xs i) same ∙ slice_get-map shown qs i)
     ∙ sym (by_shown (slice_get qs i))
 
+abbrev shown_left : Option Seen → Bool
+shown_left None = false
+shown_left (Some s) = is_none s.stamp && not s.has_rule
+
+left_by_shown : (p : Option Prerequisite) → is_none_left p ≡ shown_left (option_map shown p)
+left_by_shown None = refl
+left_by_shown (Some p) = refl
+
+left_alike : (ps qs : List Prerequisite) (i : ℕ) → map shown ps ≡ map shown qs → is_none_left (slice_get ps i) ≡ is_none_left (slice_get qs i)
+left_alike ps qs i same =
+    left_by_shown (slice_get ps i)
+    ∙ ap shown_left (sym (slice_get-map shown ps i) ∙ ap (λ xs. slice_get xs i) same ∙ slice_get-map shown qs i)
+    ∙ sym (left_by_shown (slice_get qs i))
+
 same_out_of_date : (r s : Reason) → OutOfDate r ≡ OutOfDate s → r ≡ s
 same_out_of_date r s same = cc
 
@@ -241,6 +255,14 @@ module _ (keeping : Bool) (graph : Graph) (marks : List Bool) (n : ℕ) (lines :
   first_alike : (r : Reason) → IsFirstReason keeping (entry_of graph n) a r → IsFirstReason keeping (entry_of graph n) b r
   first_alike r is = record { holds = there r is.holds; first = λ other holds. is.first other (back other holds) }
 
+  abbrev changed_words_by : Target → (i : ℕ) → (left : Bool) → List ℕ
+  changed_words_by target i left = words_by graph n target (reason.Changed i) (if left then Some i else None)
+
+  changed_alike : (i : ℕ) (left : Bool) → changed_words_by a i left ≡ changed_words_by b i left
+  changed_alike i true = refl
+  changed_alike i false =
+      ap (λ name. codes "changed: " ++ encode_utf8_all (lossy_chars name)) (name_alike a.prerequisites.now b.prerequisites.now i prerequisites)
+
   words_alike : (r : Reason) → words_of graph n a r ≡ words_of graph n b r
   words_alike reason.NoEntry = refl
   words_alike reason.WasBegun = refl
@@ -252,7 +274,8 @@ module _ (keeping : Bool) (graph : Graph) (marks : List Bool) (n : ℕ) (lines :
   words_alike (reason.Newer i) =
       ap (λ name. codes "newer: " ++ encode_utf8_all (lossy_chars name)) (name_alike a.prerequisites.now b.prerequisites.now i prerequisites)
   words_alike (reason.Changed i) =
-      ap (λ name. codes "changed: " ++ encode_utf8_all (lossy_chars name)) (name_alike a.prerequisites.now b.prerequisites.now i prerequisites)
+      ap (changed_words_by a i) (left_alike a.prerequisites.now b.prerequisites.now i prerequisites)
+      ∙ changed_alike i (is_none_left (slice_get b.prerequisites.now i))
   words_alike (reason.HiddenGone i) = refl
   words_alike (reason.Remade i) =
       ap (λ name. codes "remade: " ++ encode_utf8_all (lossy_chars name)) (name_alike a.prerequisites.now b.prerequisites.now i prerequisites)

@@ -1,6 +1,6 @@
 -- Graphs that say the same of each number: by both the same files are seen, with the same marks.
 use mathlib.Core.Path.{fun_ext}
-use Rattle.std.specs.Prelude.{◌+◌, ◌==◌, ◌&&◌, if◌then◌else◌}
+use Rattle.std.specs.Prelude.{◌+◌, ◌==◌, ◌&&◌, if◌then◌else◌, is_some}
 use Rattle.std.specs.Option.{option_map_or}
 use Rattle.std.proofs.Common.{◌≡◌, ◌∙◌, ℕ, ℤ, Bool, true, false, not, List, ◌∷◌, ◌++◌, length, map, Option, Some, None, refl, sym, ap}
 use Rattle.mk_graph.specs.Edges.{row}
@@ -15,8 +15,8 @@ use Rattle.mk_marks.specs.Marks.{nothing_kept}
 use Rattle.mk_marks.specs.Noted.{noted}
 use Rattle.mk_marks.specs.declared.kept.Kept.{Kept}
 use Rattle.mk_marks.specs.declared.noted.Noted.{Noted}
-use Rattle.mk_seen.specs.Marks.{look_from, look_of, looks_beside, looks_made, with_marks, marks_behind, marks_text, source_name, noted_in, nothing_noted, noted_of, marks_in, marks_of, made_file, files_of}
-use Rattle.mk_seen.specs.Names.{are_same}
+use Rattle.mk_seen.specs.Marks.{look_from, look_of, looks_beside, looks_made, with_marks, marks_behind, marks_text, source_name, noted_in, nothing_noted, noted_of, has_same_names, is_as_recorded, compared_in, compared_of, marks_in, marks_of, made_file, files_of}
+use Rattle.mk_seen.specs.Names.{are_known}
 use Rattle.mk_seen.specs.Nodes.{stamp_of, made_of, entry_of, hidden_of, stem_of, source_of, explicit_of, is_marked}
 use Rattle.mk_seen.specs.Seen.{Seen, seen_at, seen_hard, seen_hidden, seen_of}
 use Rattle.st_records.specs.Parts.{names_known}
@@ -93,18 +93,37 @@ module _ (a b : Graph) (same : AreAlike a b) (marks : List Bool) (n : ℕ) where
       ap (λ (ls : List Look). map made_file (with_marks ls (noted_of a n).kept)) same_looks
       ∙ ap (λ (m : Noted). map made_file (with_marks (looks_made b n) m.kept)) same_noted
 
-  abbrev marks_by : Entry → (found : Noted) (looks : List Look) (explicit : List (List ℕ)) (hidden : List (Option ℕ)) → Kept
-  marks_by entry found looks explicit hidden =
-      if not found.source_changed && (are_same explicit (names_known entry.explicit) && (length entry.hidden == length hidden))
-      then marks_behind looks found.kept
-      else nothing_kept found.kept.other
+  abbrev same_by : Entry → (found : Noted) (explicit : List (List ℕ)) (hidden : List (Option ℕ)) → Bool
+  same_by entry found explicit hidden =
+      not found.source_changed
+      && (are_known explicit (names_known entry.explicit) entry.hidden
+      && (length (names_known entry.explicit) + length entry.hidden == length explicit + length hidden))
+
+  names_alike : (entry : Entry) → has_same_names a n entry ≡ has_same_names b n entry
+  names_alike entry =
+      ap (λ m. same_by entry m (explicit_of a n) (hidden_of a n)) (noted_alike entry)
+      ∙ ap (λ ns. same_by entry (noted_in b n entry) ns (hidden_of a n)) (same.explicit n)
+      ∙ ap (same_by entry (noted_in b n entry) (explicit_of b n)) (same.hidden n)
+
+  compared_alike : (entry : Entry) → compared_in a n entry ≡ compared_in b n entry
+  compared_alike entry =
+      ap (λ s. if is_some (marks_text entry.explicit) && s then names_known entry.explicit else explicit_of a n) (names_alike entry)
+      ∙ ap (λ ns. if is_as_recorded b n entry then names_known entry.explicit else ns) (same.explicit n)
+
+  pub same_compared : compared_of a n ≡ compared_of b n
+  same_compared =
+      ap (λ (f : Entry → List (List ℕ)). option_map_or f (entry_of a n) (explicit_of a n)) (fun_ext compared_alike)
+      ∙ ap (λ e. option_map_or (compared_in b n) e (explicit_of a n)) (same.entry n)
+      ∙ ap (option_map_or (compared_in b n) (entry_of b n)) (same.explicit n)
+
+  abbrev marks_by : Entry → (found : Noted) (looks : List Look) (same_names : Bool) → Kept
+  marks_by entry found looks same_names = if same_names then marks_behind looks found.kept else nothing_kept found.kept.other
 
   marks_alike : (entry : Entry) → marks_in a n entry ≡ marks_in b n entry
   marks_alike entry =
-      ap (λ m. marks_by entry m (looks_made a n) (explicit_of a n) (hidden_of a n)) (noted_alike entry)
-      ∙ ap (λ ls. marks_by entry (noted_in b n entry) ls (explicit_of a n) (hidden_of a n)) same_looks
-      ∙ ap (λ ns. marks_by entry (noted_in b n entry) (looks_made b n) ns (hidden_of a n)) (same.explicit n)
-      ∙ ap (marks_by entry (noted_in b n entry) (looks_made b n) (explicit_of b n)) (same.hidden n)
+      ap (λ m. marks_by entry m (looks_made a n) (has_same_names a n entry)) (noted_alike entry)
+      ∙ ap (λ ls. marks_by entry (noted_in b n entry) ls (has_same_names a n entry)) same_looks
+      ∙ ap (marks_by entry (noted_in b n entry) (looks_made b n)) (names_alike entry)
 
   pub same_marks : marks_of a n ≡ marks_of b n
   same_marks =

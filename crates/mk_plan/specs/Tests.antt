@@ -1,5 +1,5 @@
 -- What the private functions compute, by one test after the other. `Nodes` says what it means.
-use Rattle.std.specs.Prelude.{ℕ, Bool, ◌||◌, List, map, filter, is_none}
+use Rattle.std.specs.Prelude.{ℕ, ℤ, Bool, ◌||◌, List, map, filter, Option, is_none}
 use Rattle.std.specs.List.{list_any}
 use Rattle.mk_graph.specs.Edges.{row}
 use Rattle.mk_graph.specs.Numbering.{name_at}
@@ -10,14 +10,14 @@ use Rattle.mk_seen.specs.Marks.{look_of, hard_marked}
 use Rattle.mk_seen.specs.Nodes.{stamp_of, made_of, is_marked}
 use Rattle.mk_plan.specs.Nodes.{was_cut}
 
--- the prerequisite m with this mark is newer than the target n
+-- the prerequisite m with this mark is newer than a target that was made then, or whose recipe was cut off
+abbrev pub is_newer_than : Graph → (marks : List Bool) → (made : Option ℤ) → (cut : Bool) → ℕ × Mark → Bool
+is_newer_than graph marks made cut (m, mark) =
+    is_none made || (cut || (is_later (stamp_of graph m) made || (is_marked marks m || mark_differs mark (look_of graph m))))
+
+-- than the target n
 abbrev pub is_newer_word : Graph → (marks : List Bool) → (n : ℕ) → ℕ × Mark → Bool
-is_newer_word graph marks n (m, mark) =
-    is_none (made_of graph n)
-    || (was_cut graph n
-    || (is_later (stamp_of graph m) (made_of graph n)
-    || (is_marked marks m
-    || mark_differs mark (look_of graph m))))
+is_newer_word graph marks n p = is_newer_than graph marks (made_of graph n) (was_cut graph n) p
 
 -- the words of `$?`: of the source and the prerequisites by name
 abbrev pub newer_words : Graph → (marks : List Bool) → (n : ℕ) → List (List ℕ)

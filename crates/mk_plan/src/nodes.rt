@@ -7,7 +7,7 @@ ghost use Rattle.mk_graph.specs.Numbering.{name_at};
 ghost use Rattle.mk_nodes.specs.Prerequisites.{is_cut};
 ghost use Rattle.mk_seen.specs.Nodes.{is_marked};
 ghost use Rattle.mk_plan.specs.Nodes.{was_cut};
-ghost use Rattle.mk_plan.specs.Tests.{is_newer_word, newer_words, ends_remade};
+ghost use Rattle.mk_plan.specs.Tests.{is_newer_than, newer_words, ends_remade};
 
 use mk_nodes::Graph;
 use mk_seen::{entry_of, is_later, is_marked, look_of, made_of, marks_of, name_of, stamp_of};
@@ -34,25 +34,26 @@ fn is_unfinished(entry: Option<&PackedEntry>) -> bool
 }
 
 /// Whether the recipe of a node was cut off, so that in the wide profile nothing tells what went into its file.
-fn was_cut(graph: &Graph, node: usize) -> bool
+pub(crate) fn was_cut(graph: &Graph, node: usize) -> bool
     ensures { result ≡ was_cut graph.now node }
 {
     graph.macros.profile().is_wide() && is_unfinished(entry_of(graph, node))
 }
 
-/// Whether a prerequisite, of which the state has this mark, is among the words of `$?` for a target.
-pub fn is_newer_word(
+/// Whether a prerequisite, of which the state has this mark, is among the words of `$?` for a target that was made then, unless its
+/// recipe was cut off.
+pub(crate) fn is_newer_than(
     graph: &Graph,
     marks: &[bool],
-    target: usize,
+    made: Option<i128>,
+    was_cut: bool,
     prerequisite: usize,
     mark: Mark,
 ) -> bool
-    ensures { result ≡ is_newer_word graph.now marks.now target (prerequisite, mark) }
+    ensures { result ≡ is_newer_than graph.now marks.now made was_cut (prerequisite, mark) }
 {
-    let made = made_of(graph, target);
     made.is_none()
-        || was_cut(graph, target)
+        || was_cut
         || is_later(stamp_of(graph, prerequisite), made)
         || is_marked(marks, prerequisite)
         || mark.differs(look_of(graph, prerequisite))
@@ -70,9 +71,11 @@ pub fn newer_words<'g>(
 {
     let mut words = Vec::new(alloc);
     let mut kept = marks_of(graph, node);
+    let made = made_of(graph, node);
+    let cut = was_cut(graph, node);
     for prerequisite in graph.hard.row(node) {
         let mark = kept.take_mark();
-        if is_newer_word(graph, marks, node, *prerequisite as usize, mark) {
+        if is_newer_than(graph, marks, made, cut, *prerequisite as usize, mark) {
             words.push(name_of(graph, *prerequisite as usize))?;
         }
     }

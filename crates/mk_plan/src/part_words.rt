@@ -4,16 +4,16 @@ ghost use Rattle.mk_graph.specs.Numbering.{all_added};
 ghost use Rattle.mk_rule_lines.specs.Explicit.{names_in};
 ghost use Rattle.mk_nodes.specs.Prerequisites.{distinct};
 ghost use Rattle.mk_plan.specs.Parts.{language_of, is_part};
-ghost use Rattle.mk_plan.specs.PartTests.{is_newer_among, newer_among};
+ghost use Rattle.mk_plan.specs.PartTests.{is_named_and_newer, newer_among};
 ghost use Rattle.mk_plan.specs.Recipe.{AreRecipeWords};
 
-use crate::nodes::is_newer_word;
+use crate::nodes::{is_newer_than, was_cut};
 use crate::words::{RecipeWords, order_only_words};
 use byte_strings::ByteStrings;
 use mk_graph::Names;
 use mk_nodes::Graph;
 use mk_rule_lines::{RuleLine, names_in};
-use mk_seen::{marks_of, name_of};
+use mk_seen::{made_of, marks_of, name_of};
 use mk_verdict::Mark;
 use std::alloc::{AllocError, Global};
 
@@ -71,19 +71,21 @@ fn once_words<'w>(alloc: Global, names: &'w Names) -> Result<Vec<&'w [u8]>, Allo
     Ok(words)
 }
 
-/// Whether a prerequisite, of which the state has this mark, is newer than a target and is among these names.
+/// Whether a prerequisite, of which the state has this mark, is among these names, and newer than a target that was made then, unless
+/// its recipe was cut off.
 fn is_newer_among(
     graph: &Graph,
     marks: &[bool],
-    target: usize,
+    made: Option<i128>,
+    was_cut: bool,
     names: &Names,
     prerequisite: usize,
     mark: Mark,
 ) -> bool
-    ensures { result ≡ is_newer_among graph.now marks.now target names.now (prerequisite, mark) }
+    ensures { result ≡ is_named_and_newer graph.now marks.now made was_cut names.now (prerequisite, mark) }
 {
     names.number_of(name_of(graph, prerequisite)).is_some()
-        && is_newer_word(graph, marks, target, prerequisite, mark)
+        && is_newer_than(graph, marks, made, was_cut, prerequisite, mark)
 }
 
 /// The hard prerequisites of a node that are newer and are among these names.
@@ -99,10 +101,12 @@ fn newer_among<'g>(
 {
     let mut words = Vec::new(alloc);
     let mut kept = marks_of(graph, node);
+    let made = made_of(graph, node);
+    let cut = was_cut(graph, node);
     for prerequisite in graph.hard.row(node) {
         let mark = kept.take_mark();
         let number = *prerequisite as usize;
-        if is_newer_among(graph, marks, node, names, number, mark) {
+        if is_newer_among(graph, marks, made, cut, names, number, mark) {
             words.push(name_of(graph, number))?;
         }
     }

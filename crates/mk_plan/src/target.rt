@@ -7,7 +7,7 @@ ghost use Rattle.mk_plan.specs.Why.{IsJudgedSo};
 use crate::why::{Why, why_of};
 use mk_nodes::Graph;
 use mk_recipe::{Line, Target, recorded};
-use mk_seen::{explicit_of, made_of, seen_files};
+use mk_seen::{compared_of, made_of, seen_files};
 use std::alloc::{AllocError, Global};
 
 /// Why a node is to be made whose recipe these lines are; None where it is up to date.
@@ -24,7 +24,7 @@ pub fn judge_node(
         × IsJudgedSo keeping graph.now node target why)) }
 {
     let commands = recorded(alloc, lines)?;
-    let explicit = explicit_of(alloc, graph, node)?;
+    let explicit = compared_of(alloc, graph, node)?;
     let seen = seen_files(alloc, graph, marks, node)?;
     let target = Target {
         commands: &commands,

@@ -1,10 +1,11 @@
 //! Why a recipe is to be run, by the verdict on its target.
 ghost use Rattle.std.specs.Prelude.{◌≡◌, ◌<◌, length, map, IfOk, OnOk};
+ghost use Rattle.std.specs.Option.{option_copied};
 ghost use Rattle.mk_graph.specs.Numbering.{all_added, name_at};
 ghost use Rattle.mk_nodes.specs.Prerequisites.{hidden_in};
 ghost use Rattle.mk_verdict.specs.Told.{words_for};
 ghost use Rattle.mk_seen.specs.Nodes.{entry_of};
-ghost use Rattle.mk_plan.specs.Why.{IsJudgedSo, gone_number, gone_words, judged_names, words_of};
+ghost use Rattle.mk_plan.specs.Why.{IsJudgedSo, gone_number, gone_words, is_none_left, judged_names, words_of};
 
 use byte_strings::ByteString;
 use mk_graph::Names;
@@ -110,11 +111,23 @@ fn gone_words(
     displayed(alloc, Reason::HiddenGone(0).told(&gone))
 }
 
-fn gone_number(reason: Reason) -> Option<usize>
-    ensures { result ≡ gone_number reason }
+/// Whether a prerequisite has neither a file nor a rule.
+fn is_none_left(prerequisite: Option<&Prerequisite<'_>>) -> bool
+    ensures { result ≡ is_none_left (option_copied prerequisite.entry) }
+{
+    match prerequisite {
+        Some(prerequisite) => prerequisite.stamp.is_none() && !prerequisite.has_rule,
+        None => false,
+    }
+}
+
+/// The number of the gone prerequisite that a reason names.
+fn gone_number(prerequisites: &[Prerequisite<'_>], reason: Reason) -> Option<usize>
+    ensures { result ≡ gone_number prerequisites.now reason }
 {
     match reason {
         Reason::HiddenGone(number) => Some(number),
+        Reason::Changed(number) if is_none_left(prerequisites.get(number)) => Some(number),
         _ => None,
     }
 }
@@ -130,7 +143,7 @@ fn words_of(
     requires { node < length graph.now.nodes.items }
     ensures { IfOk result (λ words. words ≡ words_of graph.now node target.now reason) }
 {
-    match gone_number(reason) {
+    match gone_number(target.prerequisites, reason) {
         Some(number) => gone_words(alloc, graph, node, number),
         None => displayed(alloc, reason.told(target.prerequisites)),
     }
