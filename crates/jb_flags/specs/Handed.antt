@@ -37,22 +37,17 @@ abbrev pub own_slot_words : Handed → (value : List ℕ) → List ℕ
 own_slot_words handed [] = handed.alone.items
 own_slot_words handed (b ∷ value) = b ∷ value
 
--- the words of job slots: the recipe's own, or those of the make above where it has MAKEFLAGS as it came
+-- the words of job slots of a line that may have some: the recipe's own, or those of the make above where it has MAKEFLAGS as it came
 abbrev pub slot_words : Handed → List Variable → List ℕ
 slot_words handed env = option_map_or (λ v. own_slot_words handed v.value) (find is_makeflags env) handed.slots.items
 
-abbrev pub makeflags : Handed → List Variable → List ℕ
-makeflags handed env = handed.options.items ++ slot_words handed env ++ handed.definitions.items
+abbrev pub makeflags : Handed → (slot_words : List ℕ) → List ℕ
+makeflags handed slot_words = handed.options.items ++ slot_words ++ handed.definitions.items
 
--- what makes below are told: MAKEFLAGS, how many makes are above them (GNU make, MAKELEVEL), and the profile
-abbrev pub handed_variables : Handed → List Variable → List Variable
-handed_variables handed env =
-    variable (codes "MAKEFLAGS") (makeflags handed env)
+-- what makes below are told, with these words of job slots: MAKEFLAGS, how many makes are above them (GNU make, MAKELEVEL), and the profile
+abbrev pub handed_variables : Handed → (slot_words : List ℕ) → List Variable
+handed_variables handed slot_words =
+    variable (codes "MAKEFLAGS") (makeflags handed slot_words)
     ∷ variable (codes "MAKELEVEL") handed.level.items
     ∷ variable (codes "DMK_PROFILE") (codes "posix")
     ∷ []
-
--- a recipe's variables with what makes below are told, where something is: of two of one name the later counts
-abbrev pub with_handed : Option Handed → List Variable → List Variable
-with_handed None env = env
-with_handed (Some handed) env = env ++ handed_variables handed env

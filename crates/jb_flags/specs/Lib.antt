@@ -1,4 +1,5 @@
 pub mod Handed
 pub mod Jobs
+pub mod Told
 pub mod Words
 pub mod Workers

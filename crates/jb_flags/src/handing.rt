@@ -1,14 +1,17 @@
 //! What makes below are told of the options and definitions of a run, by MAKEFLAGS, and of its profile.
-ghost use Rattle.std.specs.Prelude.{◌≡◌, ◌++◌, ◌⊎◌, Some, filter, find, option_copied, IfOk, OnOk, IsErr};
+ghost use Rattle.std.specs.Prelude.{◌≡◌, ◌≤◌, ◌++◌, ◌⊎◌, filter, find, option_copied, option_map, IfOk, OnOk, IsErr};
 ghost use Rattle.std.specs.List.{flat_map};
 ghost use Rattle.jb_flags.specs.Words.{quoted};
-ghost use Rattle.jb_flags.specs.Handed.{variable, is_passed_on, is_makeflags, definition_word, behind_options, definition_words, slot_words, makeflags, with_handed};
+ghost use Rattle.jb_flags.specs.Handed.{variable, is_passed_on, is_makeflags, definition_word, behind_options, definition_words, slot_words, makeflags};
+ghost use Rattle.jb_flags.specs.Told.{told_words, told_variables, IsTold, IsToldTo};
 
+use crate::told::{opened_line, opens, pool_in};
 use crate::words::push_quoted;
 use bd_lists::{Clearance, Ended, Exec, ExecFault, Variable};
 use byte_strings::ByteString;
 use mk_recipe::Line;
 use std::alloc::{AllocError, Global};
+use std::sync::OnceLock;
 
 /// The variable that tells makes below of the wide profile, and what it then is.
 pub const PROFILE: (&[u8], &[u8]) = (b"DMK_PROFILE", b"posix");
@@ -25,8 +28,10 @@ pub struct Handed {
     pub options: Vec<u8>,
     /// The words of job slots where a recipe shares those of a make above.
     pub slots: Vec<u8>,
-    /// Those where a recipe shares none.
+    /// Those where a recipe or a line shares none.
     pub alone: Vec<u8>,
+    /// Those of a line for which a shell opens the slots.
+    pub opened: Vec<u8>,
     /// The definitions, behind `--`.
     pub definitions: Vec<u8>,
     /// How many makes are above those below.
@@ -113,29 +118,54 @@ impl Handed {
         }
     }
 
-    fn makeflags(&self, alloc: Global, env: &[Variable]) -> Result<Vec<u8>, AllocError>
-        ensures { IfOk result (λ value. value.items ≡ makeflags self.now env.now) }
+    /// The words of job slots of a line, where it may have some, and where the FIFO of a path is opened for it.
+    fn told_words<'a>(&'a self, env: &'a [Variable], may: bool, pool: Option<&[u8]>) -> &'a [u8]
+        ensures { result.now ≡ told_words self.now env.now may (option_map (λ path. path.now) pool.entry) }
+    {
+        if pool.is_some() {
+            self.opened.as_slice()
+        } else if may {
+            self.slot_words(env)
+        } else {
+            self.alone.as_slice()
+        }
+    }
+
+    fn makeflags(&self, alloc: Global, words: &[u8]) -> Result<Vec<u8>, AllocError>
+        ensures { IfOk result (λ value. value.items ≡ makeflags self.now words.now) }
     {
         let mut value = Vec::from_slice(alloc, self.options.as_slice())?;
-        value.extend_from_slice(self.slot_words(env))?;
+        value.extend_from_slice(words)?;
         value.extend_from_slice(self.definitions.as_slice())?;
         Ok(value)
     }
 
-    /// The variables of a recipe, or of a line that is run in a dry run, with what is handed on.
-    pub fn environment(&self, alloc: Global, env: &[Variable]) -> Result<Vec<Variable>, AllocError>
-        ensures { IfOk result (λ all. all.items ≡ with_handed (Some self.now) env.now) }
+    // These variables with what is handed on, with these words of job slots.
+    fn environment(
+        &self,
+        alloc: Global,
+        words: &[u8],
+        env: &[Variable],
+    ) -> Result<Vec<Variable>, AllocError>
+        ensures { IfOk result (λ all. all.items ≡ told_variables self.now words.now env.now) }
     {
         let mut all = Vec::new(alloc);
         for given in env {
             let name = given.name.as_slice();
             all.push(variable(alloc, name, given.value.as_slice())?)?;
         }
-        let flags = self.makeflags(alloc, env)?;
+        let flags = self.makeflags(alloc, words)?;
         all.push(variable(alloc, MAKEFLAGS, &flags)?)?;
         all.push(variable(alloc, LEVEL, &self.level)?)?;
         all.push(variable(alloc, PROFILE.0, PROFILE.1)?)?;
         Ok(all)
+    }
+
+    /// These variables with what is handed on to what is run beside recipes, which shares no job slots.
+    pub fn beside(&self, alloc: Global, env: &[Variable]) -> Result<Vec<Variable>, AllocError>
+        ensures { IfOk result (λ all. all.items ≡ told_variables self.now self.now.alone.items env.now) }
+    {
+        self.environment(alloc, self.alone.as_slice(), env)
     }
 }
 
@@ -144,12 +174,52 @@ impl Handed {
 pub struct Handing<'a, E> {
     pub alloc: Global,
     pub handed: Option<&'a Handed>,
+    /// The shell that the makefile names.
+    pub shell: &'a OnceLock<ByteString>,
     pub exec: &'a E,
+}
+
+impl<E> Handing<'_, E> {
+    /// Whether the shell opens descriptors as POSIX has it.
+    fn opens(&self) -> bool {
+        match self.shell.get() {
+            Some(shell) => opens(shell.as_slice()),
+            None => true,
+        }
+    }
+}
+
+/// Runs a line with what is handed on, in a shell that opens descriptors or doesn't.
+fn run_told<T, E: Exec<T>>(
+    alloc: Global,
+    handed: &Handed,
+    opens: bool,
+    exec: &E,
+    clearance: &Clearance<T>,
+    line: &Line,
+    env: &[Variable],
+) -> Result<Ended, ExecFault>
+    ensures answered { IsErr result ⊎ IsTold (E.answers exec.now) handed.now opens line.now env.now result }
+    ensures status { IfOk result (λ e. e.status ≤ 256) }
+{
+    let may = line.is_always_run;
+    let pool = pool_in(handed.slot_words(env), may && opens);
+    let words = handed.told_words(env, may, pool);
+    let Ok(all) = handed.environment(alloc, words, env) else {
+        return Err(ExecFault);
+    };
+    let Some(path) = pool else {
+        return exec.run(clearance, line, &all);
+    };
+    match opened_line(alloc, line, path) {
+        Ok(opened) => exec.run(clearance, &opened, &all),
+        Err(_) => Err(ExecFault),
+    }
 }
 
 impl<T, E: Exec<T>> Exec<T> for Handing<'_, E> {
     ghost answers = { λ handing env line answer. IsErr answer
-        ⊎ E.answers handing.exec.now (with_handed (option_copied handing.handed) env) line answer };
+        ⊎ IsToldTo (E.answers handing.exec.now) (option_copied handing.handed) line env answer };
 
     fn run(
         &self,
@@ -157,12 +227,17 @@ impl<T, E: Exec<T>> Exec<T> for Handing<'_, E> {
         line: &Line,
         env: &[Variable],
     ) -> Result<Ended, ExecFault> {
-        let Some(handed) = self.handed else {
-            return self.exec.run(clearance, line, env);
-        };
-        match handed.environment(self.alloc, env) {
-            Ok(all) => self.exec.run(clearance, line, &all),
-            Err(_) => Err(ExecFault),
+        match self.handed {
+            Some(handed) => run_told(
+                self.alloc,
+                handed,
+                self.opens(),
+                self.exec,
+                clearance,
+                line,
+                env,
+            ),
+            None => self.exec.run(clearance, line, env),
         }
     }
 }

@@ -7,7 +7,7 @@ pub returns : goal.returns
 returns c =
     let env = c.args.env.now in
     let all : c.loop-given.all.items ≡ env = grind (arith, common_steps) in
-    let flags = variable (codes "MAKEFLAGS") (makeflags c.args.self.now env) in
+    let flags = variable (codes "MAKEFLAGS") (makeflags c.args.self.now c.args.words.now) in
     let level = variable (codes "MAKELEVEL") c.args.self.now.level.items in
     let profile = variable (codes "DMK_PROFILE") (codes "posix") in
     let told : c.push-2.new.self.items ≡ env ++ flags ∷ [] =
