@@ -1,8 +1,10 @@
 pub mod Environment
+pub mod Failing
 pub mod Files
 pub mod Hidden
 pub mod LongLine
 pub mod Noting
+pub mod Places
 pub mod Running
 pub mod Seen
 pub mod Silence

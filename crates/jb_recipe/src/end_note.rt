@@ -31,6 +31,8 @@ pub struct EndNote {
     pub(crate) files: Files,
     pub(crate) known: ByteStrings,
     pub(crate) report: Option<ByteString>,
+    /// Where the recipe writes what it read, as the makefile says.
+    pub(crate) places: Option<ByteStrings>,
     /// How the names of the report are read.
     pub(crate) profile: Profile,
     pub(crate) removes: bool,
@@ -38,7 +40,7 @@ pub struct EndNote {
     pub(crate) before: Option<i128>,
     /// What was looked at before the recipe, where the record says which files the target was made of.
     pub(crate) looked: Option<Before>,
-    /// Where compilers may write what they read in place of the report, looked at then too.
+    /// The files of which this recipe may have written some with what it read, looked at then too.
     pub(crate) depfiles: Option<Depfiles>,
 }
 
@@ -50,6 +52,8 @@ pub struct Last {
     pub not_done: Option<NotDone>,
     /// There was no report, and a compiler was told to write what it read elsewhere.
     pub unreported: bool,
+    /// The recipe is done, and didn't write these files, which the makefile says that it writes what it read into.
+    pub unwritten: Option<ByteStrings>,
     /// The recipe is done, and each file that it makes is as it was before it.
     pub is_same: bool,
 }
@@ -67,6 +71,7 @@ impl Plan {
           files = self.files;
           known = self.known;
           report = self.report;
+          places = self.places;
           profile = self.profile;
           removes = self.removes;
           before = None;
@@ -84,6 +89,7 @@ impl Plan {
             files: self.files,
             known: self.known,
             report: self.report,
+            places: self.places,
             profile: self.profile,
             removes: self.removes,
             before: None,
@@ -153,7 +159,8 @@ impl EndNote {
         if self.looked.is_none() {
             return Ok(None);
         }
-        Ok(Some(Depfiles::look(alloc, place, &self.commands)?))
+        let places = self.places.as_ref();
+        Ok(Some(Depfiles::look(alloc, place, &self.commands, places)?))
     }
 
     // What goes into the target, looked at where the record of its end is to say it.
@@ -214,6 +221,7 @@ impl EndNote {
             record: failed(self.form, self.target, status),
             not_done,
             unreported: false,
+            unwritten: None,
             is_same: false,
         }
     }

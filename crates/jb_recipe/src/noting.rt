@@ -15,8 +15,10 @@ ghost use Rattle.st_records.specs.declared.record.Record.TheVariants as records;
 ghost use Rattle.jb_recipe.specs.Environment.{environment, report_path, last_value, NamesReport};
 ghost use Rattle.jb_recipe.specs.Files.{recorded_of};
 ghost use Rattle.jb_recipe.specs.Noting.{known_of, removes};
+ghost use Rattle.jb_recipe.specs.Places.{places_said};
 ghost use Rattle.jb_recipe.specs.Silence.{as_run};
 
+use crate::places::places_said;
 use crate::said::said_in;
 use crate::silence::as_run;
 use crate::{Conduct, Files, environment};
@@ -68,6 +70,8 @@ pub struct Plan {
     /// The names of its source and its explicit prerequisites: a report that names them says nothing new.
     pub known: ByteStrings,
     pub report: Option<ByteString>,
+    /// Where the recipe writes what it read, as the makefile says.
+    pub places: Option<ByteStrings>,
     /// How the names of the report are read.
     pub profile: Profile,
     /// The target's file is removed where the recipe fails and has changed it.
@@ -117,6 +121,7 @@ struct Noted {
     commands: ByteStrings,
     files: Files,
     known: ByteStrings,
+    places: Option<ByteStrings>,
 }
 
 impl Noted {
@@ -129,12 +134,14 @@ impl Noted {
         ensures explicit { IfOk result (λ noted. noted.files.explicit ≡ explicit_of graph.now number) }
         ensures recorded { IfOk result (λ noted. noted.files.recorded.items ≡ recorded_of graph.now number) }
         ensures known { IfOk result (λ noted. noted.known ≡ known_of graph.now number) }
+        ensures places { IfOk result (λ noted. noted.places ≡ places_said graph.now.settings.depfiles (name_at graph.now.names number)) }
     {
         Ok(Noted {
             target: ByteString::from_slice(alloc, graph.names.name(number))?,
             commands: recorded(alloc, lines)?,
             files: Files::of(alloc, graph, number)?,
             known: known_of(alloc, graph, number)?,
+            places: places_said(alloc, &graph.settings.depfiles, graph.names.name(number))?,
         })
     }
 
@@ -206,6 +213,8 @@ impl Plan {
         ensures known { IfOk result (λ plan. IfSome plan (λ p. p.known ≡ known_of graph.now number)) }
         ensures report { IfOk result (λ plan. IfSome plan (λ p. p.report
             ≡ report_path conduct.now.keeps_state conduct.now.state_name number)) }
+        ensures places { IfOk result (λ plan. IfSome plan (λ p. p.places
+            ≡ places_said graph.now.settings.depfiles (name_at graph.now.names number))) }
         ensures profile { IfOk result (λ plan. IfSome plan (λ p. p.profile ≡ language_of graph.now)) }
         ensures env { IfOk result (λ plan. IfSome plan (λ p. p.recipe.env.items ≡ environment conduct.now.definitions.items
             conduct.now.makeflags p.report (name_at graph.now.names number))) }
@@ -239,6 +248,7 @@ impl Plan {
             files: noted.files,
             known: noted.known,
             report,
+            places: noted.places,
             profile: graph.macros.profile(),
             removes,
         }))

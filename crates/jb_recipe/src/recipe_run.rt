@@ -3,9 +3,11 @@ ghost use Rattle.std.specs.Prelude.{◌≡◌, ◌<◌, [], IfOk, IfErr, IfSome,
 ghost use Rattle.st_records.specs.declared.record.Record.TheVariants as records;
 ghost use Rattle.bd_lists.specs.Running.{FailsInRange};
 ghost use Rattle.jb_recipe.specs.Environment.{NamesReport};
+ghost use Rattle.jb_recipe.specs.Failing.{IsTold};
 ghost use Rattle.jb_recipe.specs.Running.{RanUnder};
 
-use crate::{Place, Say, Step};
+use crate::failing::{failed_line, lines_told};
+use crate::{FailedLine, Place, Say, Step};
 use bd_flusher::Receipt;
 use bd_lists::{Clearance, Ended, Exec, ExecFault, Recipe, Spent, Variable};
 use byte_strings::ByteString;
@@ -17,6 +19,8 @@ use std::alloc::Global;
 pub struct Ran {
     pub ended: Vec<Ended>,
     pub spent: Spent<Receipt>,
+    /// The line that failed, where that is told.
+    pub failed: Option<FailedLine>,
 }
 
 /// Says each line of the target's recipe that is printed, and then runs it. Each is a step of the run.
@@ -25,6 +29,8 @@ pub struct Spoken<'a, E, S> {
     pub exec: &'a E,
     pub say: &'a S,
     pub target: &'a [u8],
+    /// It is told which line failed.
+    pub tells_failed: bool,
 }
 
 impl<T, E: Exec<T>, S: Say> Exec<T> for Spoken<'_, E, S> {
@@ -46,7 +52,8 @@ impl<T, E: Exec<T>, S: Say> Exec<T> for Spoken<'_, E, S> {
 
 /// Runs a recipe under the clearance of its target's 'begun', each line said before it is run. No line is run beside a report of an
 /// earlier run: the place has to have removed the file that the recipe's environment names. The slot is held by whoever calls this.
-/// Its one growth comes first: where it is refused nothing was run, and the clearance comes back.
+/// The growth that it can't do without comes first: where that is refused nothing was run, and the clearance comes back. Where there is
+/// no room for what is told of a line that fails, nothing is told of it.
 pub fn run_recipe<E: Exec<Receipt>, S: Say, P: Place>(
     alloc: Global,
     clearance: Clearance<Receipt>,
@@ -61,16 +68,24 @@ pub fn run_recipe<E: Exec<Receipt>, S: Say, P: Place>(
     requires gone { IfSome (option_copied report) (P.gone place.now) }
     ensures ran { IfOk result (λ r. RanUnder (E.answers spoken.now.exec.now recipe.env.items) clearance.told recipe r) }
     ensures status { IfOk result (λ r. FailsInRange r.spent.outcome) }
+    ensures failed { IfOk result (λ r. IsTold r.spent.outcome recipe.lines.items r.ended.items r.failed) }
     ensures back { IfErr result (λ c. c ≡ clearance) }
     ensures memory { OnErr result (0 < vec_len recipe.lines) }
 {
     let Ok(mut ended) = Vec::with_capacity(alloc, recipe.lines.len()) else {
         return Err(clearance);
     };
+    let told = lines_told(alloc, spoken.tells_failed, &recipe.lines);
     spoken.say.step(Step::Begins(spoken.target));
     let spent = clearance.run(alloc, recipe, spoken, &mut ended);
-    spoken.say.step(Step::Ends(spoken.target, spent.outcome()));
-    Ok(Ran { ended, spent })
+    let outcome = spent.outcome();
+    spoken.say.step(Step::Ends(spoken.target, outcome));
+    let failed = failed_line(told, &ended, outcome);
+    Ok(Ran {
+        ended,
+        spent,
+        failed,
+    })
 }
 
 /// Runs nothing.

@@ -119,7 +119,7 @@ impl EndNote {
         }
     }
 
-    // What compilers have written in place of the report; nothing where that wasn't looked for.
+    // What the recipe has written beside the report of what it read; nothing where that wasn't looked for.
     fn read_depfiles<P: Place>(
         &self,
         alloc: Global,
@@ -127,26 +127,28 @@ impl EndNote {
     ) -> Result<Result<Read, NotDone>, AllocError> {
         match &self.depfiles {
             Some(depfiles) => depfiles.read(alloc, place),
-            None => Ok(Ok(Read {
-                names: None,
-                is_whole: false,
-            })),
+            None => Ok(Ok(Read::nothing())),
         }
     }
 
-    // What was read by the report and by what compilers have written in its place.
+    // What was read by the report and by what was written beside it.
     fn read_by(
         &self,
         alloc: Global,
         reported: Option<ByteStrings>,
         elsewhere: Read,
     ) -> Result<Read, AllocError> {
-        let Read { names, is_whole } = elsewhere;
+        let Read {
+            names,
+            is_whole,
+            unwritten,
+        } = elsewhere;
         let is_whole = is_whole || reported.is_some();
         let Some(names) = names else {
             return Ok(Read {
                 names: reported,
                 is_whole,
+                unwritten,
             });
         };
         let reported = match reported {
@@ -158,6 +160,7 @@ impl EndNote {
         Ok(Read {
             names: Some(hidden),
             is_whole,
+            unwritten,
         })
     }
 
@@ -177,6 +180,7 @@ impl EndNote {
             files,
             known: _,
             report: _,
+            places: _,
             profile: _,
             removes: _,
             before: _,
@@ -279,12 +283,14 @@ impl EndNote {
                 record: Some(done),
                 not_done: None,
                 unreported,
+                unwritten: None,
                 is_same,
             }),
             None => Ok(Last {
                 record: failed(form, target, NOT_TAKEN),
                 not_done: Some(NotDone::LongRecord),
                 unreported: false,
+                unwritten: None,
                 is_same: false,
             }),
         }
@@ -303,14 +309,20 @@ impl EndNote {
             (AreMarksOf (P.told place.now) (E.said run.now) self.target self.files self.looked) note)) }
         ensures same { IfOk result (λ l. l.is_same ≡ true → IsLeftSame (P.told place.now) self.target self.files self.looked) }
     {
-        let Read { names, is_whole } = read;
+        let Read {
+            names,
+            is_whole,
+            unwritten,
+        } = read;
         let unreported = !is_whole && self.is_told_elsewhere();
         let hidden = match names {
             Some(hidden) => hidden,
             None => ByteStrings::empty(alloc),
         };
         let behind = self.behind(alloc, place, run, &hidden)?;
-        self.into_done(alloc, hidden, behind, unreported)
+        let mut last = self.into_done(alloc, hidden, behind, unreported)?;
+        last.unwritten = unwritten;
+        Ok(last)
     }
 
     /// The record of the end: a 'done' only where the report was taken, the target's file is on the disk, and the record may

@@ -13,6 +13,10 @@ pub enum News<'a> {
         target: &'a [u8],
         status: u32,
         not_done: Option<&'a NotDone>,
+        /// Where the line stands that failed, if that is told.
+        place: Option<LinePlace<'a>>,
+        /// What that line ran, where it wasn't printed and is told.
+        command: Option<&'a [u8]>,
     },
     /// A record of it may not stand in the state.
     NotRecorded {
@@ -27,6 +31,11 @@ pub enum News<'a> {
     /// Its recipe passed and wrote no report, since a compiler was told to write what it read elsewhere. It is told once in a run.
     Unreported {
         target: &'a [u8],
+    },
+    /// Its recipe passed and didn't write this file, into which it writes what it read, as the makefile says.
+    Unwritten {
+        target: &'a [u8],
+        path: &'a [u8],
     },
     /// What MAKEFLAGS names isn't used: recipes run one by one.
     SlotsUnused,
