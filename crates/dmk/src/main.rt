@@ -5,8 +5,9 @@ mod making;
 mod state_lock;
 
 use bd_lists::Variable;
+use dmk_asking::ask;
 use dmk_host::{
-    FolderFault, SignFault, ask, enter, held_streams, keep_blocks, needs_usual_makefile,
+    FolderFault, SignFault, enter, held_streams, keep_blocks, needs_usual_makefile,
     print_other_makefile, print_word_notes, read_input, run_anew, tell, tell_fault, with_signs,
     with_state_below,
 };

@@ -8,16 +8,18 @@ use bd_flusher::Receipt;
 use bd_lists::{Exec, Variable};
 use dmk_files::{FileTexts, FileTree};
 use dmk_host::{
-    HostFiles, Patient, PoolPath, TrustedPlace, base_asked, beside_recipes, buffered,
+    HostFiles, Patient, PoolPath, TrustedPlace, base_asked, beside_recipes, buffered, locks_above,
     needs_usual_makefile, print_gnu_makefile, print_notes, print_reasons, reports_path,
-    status_columns, with_patience,
+    status_columns, streams_are_one, with_patience,
 };
-use dmk_printing::{Lending, Printer, followed};
+use dmk_printing::{Front, Lending, Printer, followed};
 use dmk_reading::{Options, value_of};
-use dmk_run::{Guard, Looks, Means, build_targets, trust_files};
+use dmk_run::{Looks, Means, build_targets};
+use dmk_store::Guard;
+use dmk_trust::trust_files;
 use dmk_words::{Later, handed_on};
 use jb_flags::{Handed, Handing};
-use jb_host::{BeforeLines, HOLDS, HostPlace, Shell, Stops, Writes};
+use jb_host::{BeforeLines, Hears, HostPlace, Shell, Stops, Writes};
 use jb_recipe::Place;
 use jb_slots::{Banks, FifoBanks};
 use mk_eval::Includes;
@@ -59,6 +61,8 @@ impl<'a> Looks<FileTree<HostFiles<'a>>> for HostLooks {
 fn writes_of(options: &Options, later: Later) -> Writes {
     if later.writes_through(options) {
         Writes::Through
+    } else if later.writes_at_front(options) {
+        Writes::Heard
     } else {
         Writes::Apart
     }
@@ -74,12 +78,17 @@ fn host_printer<'a, R: Wait>(
 ) -> Result<HostPrinter<'a, R>, AllocError> {
     let alloc = host.alloc();
     let has_none = is_silent || writes == Writes::Through;
+    let front = match writes {
+        Writes::Heard => Some(Front::new(host, alloc, streams_are_one(host))),
+        _ => None,
+    };
     Ok(Printer::new(
         rt,
         alloc,
         buffered(alloc, with_patience(host, host.stdout()))?,
         buffered(alloc, with_patience(host, host.stderr()))?,
         status_columns(host, environment, has_none),
+        front,
     ))
 }
 
@@ -95,7 +104,7 @@ fn outfit_of<'a, R: Wait>(
     let flags = value_of(environment, b"MAKEFLAGS");
     let before = later.definitions_before(options.profile, environment);
     let handed = handed_on(alloc, options, later, before, flags)?;
-    let lock = LockPlace::of(host, state)?;
+    let lock = LockPlace::of(host, state, locks_above(environment))?;
     let folder = SystemFolder::new(host, alloc, state)?;
     let reports = reports_path(host, options.profile, state)?;
     let pool = PoolPath::new(host, state, flags, usize::from(options.workers))?;
@@ -161,13 +170,64 @@ where
     )
 }
 
+/// Makes the targets, and answers the status. Lines are told what is handed on, where something is.
+fn make_handing<'m, R, T, L, I, E, O, W, P, G, K, D>(
+    rt: &R,
+    alloc: Global,
+    means: &Means<'m, E, Printer<'_, R, O, W>, P>,
+    handed: Option<&'m Handed>,
+    writes: Writes,
+    guard: &mut G,
+    options: Options,
+    looks: &L,
+    makefiles: &mut I,
+    banks: &mut K,
+    disk: D,
+) -> (u8, D)
+where
+    R: Threads + Wait + Sync,
+    T: Tree + Drop,
+    L: Looks<T>,
+    I: Includes,
+    E: Exec<Receipt> + Sync,
+    O: Write + Drop + Send,
+    W: Write + Drop + Send,
+    P: Place + Sync,
+    G: Guard,
+    K: Banks,
+    K::End: Drop + Send,
+    D: Disk + Drop + Send,
+    requires { AsksToRun options (value_in means.now.environment.now (codes "MAKEFLAGS")) }
+{
+    let handing = Handing {
+        alloc,
+        handed,
+        shell: means.shell,
+        exec: means.exec,
+    };
+    let means = Means {
+        key: means.key,
+        environment: means.environment,
+        pool: means.pool,
+        reports: means.reports,
+        exec: &handing,
+        say: means.say,
+        place: means.place,
+        shell: means.shell,
+    };
+    make_lending(
+        rt, alloc, &means, writes, guard, options, looks, makefiles, banks, disk,
+    )
+}
+
 /// Takes targets as they are where their files are trusted, makes the targets, and answers the status. The state's disk comes back.
 ///
 /// The parts of this machine are of any types here: made concrete once, at the call.
-fn make_over<R, T, L, I, E, O, W, P, Q, G, K, D>(
+fn make_over<'m, R, T, L, I, E, O, W, P, Q, G, K, D>(
     rt: &R,
     alloc: Global,
-    means: &Means<'_, E, Printer<'_, R, O, W>, P>,
+    means: &Means<'m, E, Printer<'_, R, O, W>, P>,
+    handed: Option<&'m Handed>,
     writes: Writes,
     guard: &mut G,
     options: Options,
@@ -220,10 +280,61 @@ where
         ||
             requires { AsksToRun options (value_in means.now.environment.now (codes "MAKEFLAGS")) }
         {
-            make_lending(
-                rt, alloc, means, writes, guard, options, looks, makefiles, banks, disk,
+            make_handing(
+                rt, alloc, means, handed, writes, guard, options, looks, makefiles, banks, disk,
             )
         },
+    )
+}
+
+/// The same, by a shell whose lines somebody hears: the means have none yet.
+fn make_by_shell<'m, R, T, L, I, H, X, O, W, P, Q, G, K, D>(
+    rt: &R,
+    host: HostRuntime,
+    before: &'m BeforeLines,
+    stops: &'m Stops<'m, R>,
+    hears: &'m H,
+    means: &Means<'m, X, Printer<'_, R, O, W>, P>,
+    handed: Option<&'m Handed>,
+    writes: Writes,
+    guard: &mut G,
+    options: Options,
+    trusted: Option<&Q>,
+    looks: &L,
+    makefiles: &mut I,
+    banks: &mut K,
+    disk: D,
+) -> (u8, D)
+where
+    R: Threads + Wait + Sync,
+    T: Tree + Drop,
+    L: Looks<T>,
+    I: Includes,
+    H: Hears + Sync,
+    O: Write + Drop + Send,
+    W: Write + Drop + Send,
+    P: Place + Sync,
+    Q: Place,
+    G: Guard,
+    K: Banks,
+    K::End: Drop + Send,
+    D: Disk + Drop + Send,
+    requires { AsksToRun options (value_in means.now.environment.now (codes "MAKEFLAGS")) }
+{
+    let alloc = host.alloc();
+    let shell = Shell::new(host, alloc, before, stops, writes, hears);
+    let means = Means {
+        key: means.key,
+        environment: means.environment,
+        pool: means.pool,
+        reports: means.reports,
+        exec: &shell,
+        say: means.say,
+        place: means.place,
+        shell: means.shell,
+    };
+    make_over(
+        rt, alloc, &means, handed, writes, guard, options, trusted, looks, makefiles, banks, disk,
     )
 }
 
@@ -253,14 +364,7 @@ fn make_with<'a, R: Threads + Wait + Sync>(
     } = outfit;
     let alloc = host.alloc();
     let is_usual = needs_usual_makefile(&options);
-    let above = str::from_utf8(value_of(environment, HOLDS.as_bytes())).unwrap_or("");
-    let mut guard = StateLock::new(host, lock, above, &before.held);
-    let shell = Shell::new(host, alloc, before, stops, writes);
-    let exec = Handing {
-        alloc,
-        handed: handed.as_ref(),
-        exec: &shell,
-    };
+    let mut guard = StateLock::new(host, lock, &before.held);
     let place = HostPlace::new(rt, host, stops);
     let trusted = TrustedPlace {
         host,
@@ -271,17 +375,21 @@ fn make_with<'a, R: Threads + Wait + Sync>(
         environment,
         pool: pool.as_bytes(),
         reports: reports.as_bytes(),
-        exec: &exec,
+        exec: &(),
         say: &printer,
         place: &place,
         shell: &before.shell,
     };
     let looks = HostLooks { host };
     let mut banks = FifoBanks::new(host, "mkfifo");
-    let (status, disk) = make_over(
+    let (status, disk) = make_by_shell(
         rt,
-        alloc,
+        host,
+        before,
+        stops,
+        &printer,
         &means,
+        handed.as_ref(),
         writes,
         &mut guard,
         options,

@@ -1,18 +1,20 @@
 //! The lock on a state: on an empty file beside it, which stays. Recipes inherit a handle to it, and so hold the lock too.
 
 use dmk_locks::{LockFile, Tried, is_open_above, is_over, lock_path};
-use dmk_run::{Guard, Hold};
+use dmk_store::{Guard, Hold};
 use jb_host::HeldLock;
 use std::alloc::AllocError;
 use std::fs;
 use std::io::{self, ErrorKind};
 use std::sync::OnceLock;
 
-/// The name of a state, and the path of the lock on it.
+/// The name of a state, the path of the lock on it, and which locks are held above.
 #[derive(Drop)]
 pub struct LockPlace {
     state: String,
     path: String,
+    /// The locks that the runs above hold, as the environment has them.
+    above: String,
 }
 
 /// Takes the lock on a state, and puts it where recipes are given it.
@@ -20,8 +22,6 @@ pub struct LockPlace {
 pub struct StateLock<'a> {
     rt: HostRuntime,
     place: LockPlace,
-    /// The locks that the runs above hold, as the environment has them.
-    above: &'a str,
     held: &'a OnceLock<HeldLock>,
     /// It was had, or what there was to say of that was said.
     is_settled: bool,
@@ -55,25 +55,20 @@ impl From<io::Error> for LockFault {
 }
 
 impl LockPlace {
-    pub fn of(rt: HostRuntime, state: &str) -> Result<LockPlace, AllocError> {
+    pub fn of(rt: HostRuntime, state: &str, above: &str) -> Result<LockPlace, AllocError> {
         Ok(LockPlace {
             state: String::from_str(rt.alloc(), state)?,
             path: lock_path(rt, state)?,
+            above: String::from_str(rt.alloc(), above)?,
         })
     }
 }
 
 impl<'a> StateLock<'a> {
-    pub fn new(
-        rt: HostRuntime,
-        place: LockPlace,
-        above: &'a str,
-        held: &'a OnceLock<HeldLock>,
-    ) -> StateLock<'a> {
+    pub fn new(rt: HostRuntime, place: LockPlace, held: &'a OnceLock<HeldLock>) -> StateLock<'a> {
         StateLock {
             rt,
             place,
-            above,
             held,
             is_settled: false,
         }
@@ -90,7 +85,7 @@ impl<'a> StateLock<'a> {
     // Whether a run above has the lock, and waits for this one. One that is over doesn't; but a shell that it left above this one may.
     fn is_held_above(&self, opened: &LockFile) -> Result<bool, AllocError> {
         let mut is_named = false;
-        for name in self.above.split(' ') {
+        for name in self.place.above.split(' ') {
             if let Some(run) = opened.run_of(self.rt, name)? {
                 if !is_over(self.rt, run)? {
                     return Ok(true);
@@ -104,7 +99,7 @@ impl<'a> StateLock<'a> {
     // Puts the lock where recipes find it.
     fn keep(&self, opened: LockFile) -> Result<Hold, LockFault> {
         let name = opened.name(self.rt)?;
-        let above = self.above;
+        let above = self.place.above.as_str();
         let names = if above.is_empty() {
             name
         } else {

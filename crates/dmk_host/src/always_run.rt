@@ -55,7 +55,7 @@ pub fn beside_recipes(
     let definitions = options.definitions.as_slice();
     let env = environment(alloc, definitions, &Makeflags::Removed, None, b"")?;
     match handed_on(alloc, options, later, before, flags)? {
-        Some(handed) => handed.environment(alloc, &env),
+        Some(handed) => handed.beside(alloc, &env),
         None => Ok(env),
     }
 }

@@ -1,18 +1,15 @@
-//! This machine as a run sees it, its files, locks and streams; and what is told of it without a run.
+//! This machine as a run sees it: its files, locks and streams.
 #![tactic(auto)]
 
 mod always_run;
-mod asking;
 mod base;
 mod child_signal;
 mod folder;
 mod host_files;
 mod looks;
 mod memory;
-mod options_again;
 mod pool_path;
 mod reasons;
-mod shell_asked;
 mod sign;
 mod signs;
 mod standard_streams;
@@ -22,8 +19,7 @@ mod trusted_place;
 mod unfilled;
 mod word_notes;
 
-pub use always_run::beside_recipes;
-pub use asking::ask;
+pub use always_run::{AlwaysLines, LineSettings, beside_recipes};
 pub use base::base_asked;
 pub use child_signal::run_anew;
 pub use folder::{FolderFault, enter, tell};
@@ -34,8 +30,10 @@ pub use reasons::{
     needs_usual_makefile, print_gnu_makefile, print_notes, print_other_makefile, print_reasons,
 };
 pub use signs::{SignFault, with_signs};
-pub use standard_streams::{Patient, buffered, held_streams, tell_fault, with_patience};
-pub use state_below::{locks_above, with_state_below};
+pub use standard_streams::{
+    Patient, buffered, held_streams, streams_are_one, tell_fault, with_patience,
+};
+pub use state_below::{locks_above, with_locks_told, with_state_below};
 pub use terminal::status_columns;
 pub use trusted_place::TrustedPlace;
 pub use word_notes::print_word_notes;

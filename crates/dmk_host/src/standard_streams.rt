@@ -2,8 +2,9 @@
 use plain_text::Plain;
 use std::alloc::{AllocError, Global};
 use std::fmt::Display;
-use std::fs::File;
+use std::fs::{self, File};
 use std::io::{self, BufWriter, ErrorKind, Write};
+use std::os::unix::fs::MetadataExt;
 use std::thread;
 use std::time::Duration;
 
@@ -58,4 +59,19 @@ fn null(rt: HostRuntime) -> io::Result<File> {
 /// get such a number, and what is printed would go into it. What is printed on one of these is refused.
 pub fn held_streams(rt: HostRuntime) -> [io::Result<File>; 3] {
     [null(rt), null(rt), null(rt)]
+}
+
+/// What is known of an open file by its path: the device and its number there.
+fn found_at(rt: HostRuntime, path: &str) -> Option<(u64, u64)> {
+    match fs::metadata(&rt, path) {
+        Ok(found) => Some((found.dev(), found.ino())),
+        Err(_) => None,
+    }
+}
+
+/// Whether standard output and error are one file, as far as the system tells. Where they are the one that keeps nothing, it is as well to
+/// have them apart: one of them may be held, and refuse what is printed.
+pub fn streams_are_one(rt: HostRuntime) -> bool {
+    let out = found_at(rt, "/proc/self/fd/1");
+    out.is_some() && out == found_at(rt, "/proc/self/fd/2") && out != found_at(rt, "/dev/null")
 }

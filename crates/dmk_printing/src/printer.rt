@@ -2,12 +2,16 @@
 //! through a writer with a buffer it is one write, as long as it fits.
 ghost use Rattle.mk_eval.specs.Output.{World};
 
+use crate::counts::Counts;
+use crate::front::Front;
+use crate::queue::Due;
 use crate::status_line::StatusLine;
 use crate::streams::Streams;
 use crate::trusted::Trusted;
 use bd_lists::Ended;
 use dmk_messages::{Message, print_fault, print_lines, print_note};
 use jb_closing::RunFault;
+use jb_host::{Hears, Stream};
 use jb_recipe::{News, Say, Step};
 use mk_eval::Includes;
 use mk_rule_lines::Unmade;
@@ -23,6 +27,8 @@ pub struct Printer<'a, R: Wait, O: Write + Drop, E: Write + Drop> {
     streams: Mutex<Streams<O, E>>,
     /// Told once the run is over.
     over: Condvar,
+    /// Where what recipes write is printed as it comes, one of them at a time.
+    front: Option<Front>,
 }
 
 impl<'a, R: Wait, O: Write + Drop, E: Write + Drop> Drop for Printer<'a, R, O, E> {
@@ -31,6 +37,7 @@ impl<'a, R: Wait, O: Write + Drop, E: Write + Drop> Drop for Printer<'a, R, O, E
             rt: _,
             streams: _,
             over: _,
+            front: _,
         } = self;
     }
 }
@@ -43,6 +50,7 @@ impl<'a, R: Wait, O: Write + Drop, E: Write + Drop> Printer<'a, R, O, E> {
         out: O,
         err: E,
         columns: Option<usize>,
+        front: Option<Front>,
     ) -> Printer<'a, R, O, E> {
         Printer {
             rt,
@@ -53,6 +61,7 @@ impl<'a, R: Wait, O: Write + Drop, E: Write + Drop> Printer<'a, R, O, E> {
                 columns.map(|columns| StatusLine::new(alloc, columns)),
             )),
             over: Condvar::new(),
+            front,
         }
     }
 
@@ -62,11 +71,18 @@ impl<'a, R: Wait, O: Write + Drop, E: Write + Drop> Printer<'a, R, O, E> {
             rt: _,
             streams,
             over: _,
+            front: _,
         } = self;
         streams.into_inner().apart()
     }
 
-    /// The run is over: its status line goes. Says once more which targets failed, where other lines stand behind that.
+    /// A part of the run has ended, whose recipes came to this.
+    pub fn count(&self, counts: Counts) {
+        self.streams.lock(self.rt).count(counts);
+    }
+
+    /// The run is over: its status line goes. Says once more which targets failed, where other lines stand behind that, and how many of
+    /// those that were counted.
     pub fn repeat_failures(&self) {
         self.end();
         self.streams.lock(self.rt).repeat_failures();
@@ -94,9 +110,29 @@ impl<'a, R: Wait, O: Write + Drop, E: Write + Drop> Printer<'a, R, O, E> {
         self.streams.lock(self.rt).is_over
     }
 
-    /// A line is run that writes on the two streams itself.
+    /// A recipe begins or ends, whose output is printed as it comes.
+    fn follow(&self, front: &Front, step: Step<'_>) {
+        match step {
+            Step::Begins(_) => front.begin(self.rt),
+            Step::Ends(_, _) => {
+                if let Some(number) = front.number(self.rt) {
+                    let mut streams = self.streams.lock(self.rt);
+                    front.end(self.rt, &mut *streams, number);
+                }
+            }
+            _ => {}
+        }
+    }
+
+    /// A line is run that writes on the two streams itself, behind all that its recipe wrote before.
     pub(crate) fn lend(&self) {
-        self.streams.lock(self.rt).lend();
+        let mut streams = self.streams.lock(self.rt);
+        if let Some(front) = &self.front {
+            if let Some(number) = front.number(self.rt) {
+                front.print_all(self.rt, &mut *streams, number);
+            }
+        }
+        streams.lend();
     }
 
     /// It has ended.
@@ -242,6 +278,43 @@ impl<R: Wait, O: Write + Drop, E: Write + Drop> Say for Printer<'_, R, O, E> {
     }
 
     fn step(&self, step: Step<'_>) {
+        if let Some(front) = &self.front {
+            self.follow(front, step);
+        }
         self.streams.lock(self.rt).step(step);
+    }
+}
+
+impl<R: Wait, O: Write + Drop, E: Write + Drop> Hears for Printer<'_, R, O, E> {
+    fn number(&self) -> Option<u64> {
+        self.front.as_ref()?.number(self.rt)
+    }
+
+    fn are_one(&self) -> bool {
+        match &self.front {
+            Some(front) => front.are_one,
+            None => false,
+        }
+    }
+
+    fn hear(&self, number: u64, stream: Stream, bytes: &[u8]) {
+        let Some(front) = &self.front else {
+            return;
+        };
+        match front.keep(self.rt, number, stream, bytes) {
+            Due::Nothing => {}
+            Due::Lines => {
+                let mut streams = self.streams.lock(self.rt);
+                front.print_lines(self.rt, &mut *streams);
+            }
+            Due::All => {
+                let mut streams = self.streams.lock(self.rt);
+                front.print_all(self.rt, &mut *streams, number);
+                match stream {
+                    Stream::Out => streams.written(bytes, b""),
+                    Stream::Err => streams.written(b"", bytes),
+                }
+            }
+        }
     }
 }

@@ -1,5 +1,6 @@
 //! The two streams that a run prints on, one of which may show a status line between what stays.
 
+use crate::counts::{Counts, write_counts};
 use crate::news::{is_failure, write_failure, write_fault, write_goal, write_news};
 use crate::status_line::StatusLine;
 use bd_lists::Ended;
@@ -19,6 +20,8 @@ pub(crate) struct Streams<O: Write + Drop, E: Write + Drop> {
     failures: Vec<u8>,
     /// Something was printed behind the first of them.
     has_more: bool,
+    /// What the parts of the run that have ended came to.
+    counts: Counts,
     /// What was printed last on each of them ends its line.
     ends_out: bool,
     ends_err: bool,
@@ -43,6 +46,7 @@ impl<O: Write + Drop, E: Write + Drop> Drop for Streams<O, E> {
             is_whole: _,
             failures: _,
             has_more: _,
+            counts: _,
             ends_out: _,
             ends_err: _,
             status: _,
@@ -101,6 +105,7 @@ impl<O: Write + Drop, E: Write + Drop> Streams<O, E> {
             is_whole: true,
             failures: Vec::new(alloc),
             has_more: false,
+            counts: Counts::none(),
             ends_out: true,
             ends_err: true,
             status,
@@ -120,6 +125,7 @@ impl<O: Write + Drop, E: Write + Drop> Streams<O, E> {
             is_whole: _,
             failures: _,
             has_more: _,
+            counts: _,
             ends_out: _,
             ends_err: _,
             status: _,
@@ -204,6 +210,24 @@ impl<O: Write + Drop, E: Write + Drop> Streams<O, E> {
         }
         let _ = write_err(&mut self.err, ended);
         self.note_ends(ended);
+        self.draw_status();
+    }
+
+    /// What a recipe wrote behind what was printed of it.
+    pub(crate) fn written(&mut self, out: &[u8], err: &[u8]) {
+        if out.is_empty() && err.is_empty() {
+            return;
+        }
+        self.go_on();
+        self.make_way();
+        if !out.is_empty() && write_text(&mut self.out, out).is_err() {
+            self.is_whole = false;
+        }
+        if !err.is_empty() {
+            let _ = write_text(&mut self.err, err);
+        }
+        self.ends_out = ends_line(self.ends_out, out);
+        self.ends_err = ends_line(self.ends_err, err);
         self.draw_status();
     }
 
@@ -294,11 +318,17 @@ impl<O: Write + Drop, E: Write + Drop> Streams<O, E> {
         self.ends_err = true;
     }
 
-    /// Says once more which targets failed, unless that stands last.
+    /// A part of the run has ended.
+    pub(crate) fn count(&mut self, counts: Counts) {
+        self.counts.add(counts);
+    }
+
+    /// Says once more which targets failed, unless that stands last, and how many did.
     pub(crate) fn repeat_failures(&mut self) {
         if self.has_more {
             let _ = self.err.write_all(&self.failures);
-            let _ = self.err.flush();
         }
+        write_counts(&mut self.err, self.counts);
+        let _ = self.err.flush();
     }
 }

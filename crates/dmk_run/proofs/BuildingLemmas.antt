@@ -24,9 +24,10 @@ use Rattle.jb_closing.specs.Closing.{IsBuilt, IsTrueOf, AreTrueOf}
 use Rattle.jb_closing.specs.Report.{ends_well}
 use Rattle.dmk_run.specs.Judged.{IsBorneOut}
 use Rattle.dmk_run.specs.Known.{IsTold}
-use Rattle.dmk_run.specs.Behind.{none_tried}
-use Rattle.dmk_run.specs.Made.{HasMade, AreTried, IsBuilt as IsNameBuilt, IsBuiltWithoutFile, IsMade}
-use Rattle.dmk_run.specs.declared.tried.Tried.{Tried}
+use Rattle.dmk_parts.specs.Behind.{none_tried}
+use Rattle.dmk_run.specs.Made.{HasMade, IsMade}
+use Rattle.dmk_parts.specs.Tried.{AreTried, IsBuilt as IsNameBuilt, IsBuiltWithoutFile}
+use Rattle.dmk_parts.specs.declared.tried.Tried.{Tried}
 use Rattle.dmk_reading.specs.Lost.{with_unmade}
 use Rattle.dmk_run.specs.Settled.{IsNoneToRun}
 use Rattle.dmk_run.proofs.DriverLemmas.{made_with}

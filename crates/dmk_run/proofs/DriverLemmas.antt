@@ -1,8 +1,6 @@
 -- What a run over a store says of a makefile.
 use Rattle.std.proofs.Common.{◌≡◌, ◌≢◌, ◌⊎◌, ◌||◌, inl, inr, ℕ, ◌≤◌, Bool, true, false, List, [], ◌∷◌, Option, Result, Ok, Err, IfOk, IfErr, IsTrue, ◌∙◌, length, refl, sym, subst, arith}
 use Rattle.std.specs.FinMap as map
-use Rattle.std.specs.Coded.{Coded-set}
-use Rattle.std.proofs.Math.Logic.{∥∥₁_elim}
 use Rattle.std.specs.List.{list_all}
 use Rattle.mk_profile.specs.declared.profile.Profile.{Profile}
 use Rattle.mk_reader.specs.declared.item.Item.{Item}
@@ -10,27 +8,28 @@ use Rattle.mk_nodes.specs.declared.graph.Graph.{Graph}
 use Rattle.jb_closing.specs.Report.{ends_well}
 use Rattle.jb_closing.specs.declared.fault.RunFault.{RunFault}
 use Rattle.jb_closing.specs.declared.report.Report.{Report}
-use Rattle.st_disk.specs.Crash.{Sides, IsCrashImage, writes_of}
+use Rattle.st_disk.specs.Crash.{Sides}
 use Rattle.st_disk.specs.declared.which.Which.{Which}
 use Rattle.st_disk.specs.declared.which.Which.TheVariants as which
-use Rattle.st_state.specs.State.{StateMap, state_code}
+use Rattle.st_state.specs.State.{StateMap}
 use Rattle.st_records.specs.declared.version.Form.{Form}
 use Rattle.st_records.specs.declared.version.Form.TheVariants as forms
 use Rattle.st_recovery.specs.Recovers.{RecoversIn, recovered}
-use Rattle.st_recovery.specs.Stored.{AllRecoverIn}
 use Rattle.st_recovery.proofs.RecoversLemmas.{one_recovery_in}
 use Rattle.bd_lists.specs.declared.recipe.Variable.{Variable}
 use Rattle.bd_places.specs.declared.end.End.{End}
 use Rattle.dmk_reading.specs.Keeping.{kept_form}
 use Rattle.dmk_reading.specs.Planned.{IsGraphOf, IsStateOn, judged_graph}
 use Rattle.dmk_run.specs.InTurn.{IsParted}
-use Rattle.dmk_run.specs.Opened.{RecoversAsBefore}
+use Rattle.dmk_store.specs.Opened.{RecoversAsBefore}
 use Rattle.dmk_run.specs.Judged.{IsBorneOut}
-use Rattle.dmk_run.specs.Behind.{IsJudgedBehind}
-use Rattle.dmk_run.specs.Made.{HasMade, AreTried, IsMade, MakesItems}
+use Rattle.dmk_parts.specs.Behind.{IsJudgedBehind}
+use Rattle.dmk_run.specs.Made.{HasMade, IsMade, MakesItems}
+use Rattle.dmk_parts.specs.Tried.{AreTried}
 use Rattle.dmk_reading.specs.Lost.{goes_without, with_unmade}
-use Rattle.dmk_run.specs.declared.stop.Stop.{Stop}
-use Rattle.dmk_run.specs.declared.tried.Tried.{Tried}
+use Rattle.dmk_store.specs.declared.stop.Stop.{Stop}
+use Rattle.dmk_parts.specs.declared.tried.Tried.{Tried}
+use Rattle.dmk_store.proofs.OpeningLemmas.{same_state}
 use Rattle.mk_nodes.specs.declared.file_look.FileLook.{FileLook}
 
 -- what isn't parted may have left anything
@@ -53,18 +52,6 @@ module _ {Disk : Type 0} (newest : Form) (disk_honest : Type 0) (seen : Disk →
   left_as_before found opened left (Ok status) before same = tt
   left_as_before found opened left (Err stop) before same = λ parted.
       subst (λ d. RecoversAsBefore newest disk_honest (seen found) (seen d)) (sym (same parted)) before
-
-same_state : (m n : StateMap) → recovered m ≡ recovered n → m ≡ n
-same_state m n e = cc
-
--- a disk of which each pair recovers the state that was recovered before recovers no other one
-pub opened_as_before : (newest : Form) (disk_honest : Type 0) (before now : Which → List ℕ) (sides : Sides) (state : StateMap) →
-    (disk_honest → RecoversIn newest (before which.A) (before which.B) state) → (disk_honest → AllRecoverIn newest state sides) →
-    (disk_honest → (side : Which) → IsCrashImage (writes_of side sides) (now side)) → RecoversAsBefore newest disk_honest before now
-opened_as_before newest disk_honest before now sides state found all image = λ honest m is.
-    let same : m ≡ state = ∥∥₁_elim (all honest (now which.A) (now which.B) (image honest which.A) (image honest which.B)) (Coded-set state_code m state)
-    (λ own. same_state m state (one_recovery_in newest (now which.A) (now which.B) (recovered m) (recovered state) is own)) in
-    subst (RecoversIn newest (before which.A) (before which.B)) (sym same) (found honest)
 
 no_value : false ≡ true → ⊥
 no_value is = cc

@@ -18,13 +18,15 @@ use Rattle.dmk_reading.specs.Planned.{AreItems, IsStateOn}
 use Rattle.dmk_reading.specs.declared.makefiles.Makefiles.{Makefiles}
 use Rattle.dmk_reading.specs.declared.options.Options.{Options}
 use Rattle.st_state.specs.State.{StateMap}
-use Rattle.dmk_run.specs.Behind.{none_tried, both_tried}
-use Rattle.dmk_run.specs.Made.{Makes, MakesItems, AreTried, AddsTried, tried_in}
-use Rattle.dmk_run.specs.declared.left.Left.{Left}
-use Rattle.dmk_run.specs.Opened.{RecoversAsBefore}
-use Rattle.dmk_run.specs.InTurn.{Between, MakesPart, LeavesDisk, IsParted, AreParts, at_once, in_turn, GoesOn, EndsRun, Joined, MadeInTurn, none_left, first_made, run_ended, MadeBehind, no_more, once_more, MakesWithLost, IsMadeInTurn}
-use Rattle.dmk_run.specs.declared.stop.Stop.{Stop}
-use Rattle.dmk_run.specs.declared.tried.Tried.{Tried}
+use Rattle.dmk_parts.specs.Behind.{none_tried, both_tried}
+use Rattle.dmk_run.specs.Made.{Makes, MakesItems}
+use Rattle.dmk_parts.specs.Tried.{AreTried, AddsTried, tried_in}
+use Rattle.dmk_parts.specs.declared.left.Left.{Left}
+use Rattle.dmk_store.specs.Opened.{RecoversAsBefore}
+use Rattle.dmk_run.specs.InTurn.{Between, MakesPart, LeavesDisk, IsParted, MadeInTurn, none_left, first_made, run_ended, MadeBehind, no_more, once_more, MakesWithLost, IsMadeInTurn}
+use Rattle.dmk_parts.specs.Parts.{AreParts, at_once, in_turn, GoesOn, EndsRun, Joined}
+use Rattle.dmk_store.specs.declared.stop.Stop.{Stop}
+use Rattle.dmk_parts.specs.declared.tried.Tried.{Tried}
 use Rattle.dmk_run.proofs.DriverLemmas.{at_ok}
 use Rattle.mk_nodes.specs.declared.file_look.FileLook.{FileLook}
 

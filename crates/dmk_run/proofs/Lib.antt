@@ -1,10 +1,4 @@
-mod OpeningLemmas
 mod JudgingLemmas
 mod BuildingLemmas
-mod BehindLemmas
 mod DriverLemmas
-mod TakingLemmas
-mod TrustingLemmas
-mod PlanningLemmas
 mod InTurnLemmas
-mod PartLemmas

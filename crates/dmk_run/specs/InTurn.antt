@@ -1,6 +1,6 @@
 -- Goals that are made in parts, one behind the other. That the targets of the command line are made in their order is what POSIX make
 -- says of a run with one worker, and that a failure ends a run without -k (its "OPERANDS" and "OPTIONS"); where a part ends is own.
-use Rattle.std.specs.Prelude.{◌≡◌, ◌≢◌, ◌⊎◌, ℕ, max, Bool, true, false, List, [], ◌∷◌, ◌++◌, Option, Result, Ok}
+use Rattle.std.specs.Prelude.{◌≡◌, ◌≢◌, ◌⊎◌, ℕ, max, Bool, true, List, [], ◌∷◌, Option}
 use Rattle.mk_eval.specs.Output.{World}
 use Rattle.mk_reader.specs.declared.item.Item.{Item}
 use Rattle.st_disk.specs.Crash.{Sides}
@@ -10,11 +10,12 @@ use Rattle.dmk_reading.specs.Definitions.{first_defined}
 use Rattle.dmk_reading.specs.Keeping.{keeps}
 use Rattle.dmk_reading.specs.Planned.{AreItems}
 use Rattle.dmk_reading.specs.declared.options.Options.{Options}
-use Rattle.dmk_run.specs.Behind.{both_tried}
+use Rattle.dmk_parts.specs.Behind.{both_tried}
+use Rattle.dmk_parts.specs.Parts.{AreParts, GoesOn, EndsRun}
 use Rattle.dmk_run.specs.Made.{Makes}
-use Rattle.dmk_run.specs.declared.stop.Stop.{Stop}
-use Rattle.dmk_run.specs.declared.stop.Stop.TheVariants as stops
-use Rattle.dmk_run.specs.declared.tried.Tried.{Tried}
+use Rattle.dmk_store.specs.declared.stop.Stop.{Stop}
+use Rattle.dmk_store.specs.declared.stop.Stop.TheVariants as stops
+use Rattle.dmk_parts.specs.declared.tried.Tried.{Tried}
 use Rattle.mk_nodes.specs.declared.file_look.FileLook.{FileLook}
 
 -- ---- One part
@@ -51,30 +52,7 @@ abbrev pub IsParted : Stop → Type 0
 IsParted (stops.Parted _) = Unit {0}
 IsParted _ = ⊥
 
--- the goals in parts: all of them are one part, or the first of them are, and those behind these are in parts. No goal is left out, and
--- only where none is named a part has none: by it the makefile's first target is made
-pub data AreParts : (goals : List (List ℕ)) → (parts : List (List (List ℕ))) → Type 0 where
-  at_once : (goals : List (List ℕ)) → AreParts goals (goals ∷ [])
-  in_turn : (first behind : List (List ℕ)) (parts : List (List (List ℕ))) → first ≢ [] → behind ≢ [] → AreParts behind parts →
-      AreParts (first ++ behind) (first ∷ parts)
-
 -- ---- One behind the other
-
--- more is made behind what has this status: it is no failure, or the run goes on behind one
-abbrev pub GoesOn : (goes_on : Bool) (status : ℕ) → Type 0
-GoesOn goes_on status = (status ≡ 0) ⊎ (goes_on ≡ true)
-
--- nothing more is: it is a failure, and the run goes on behind none
-abbrev pub EndsRun : (goes_on : Bool) (status : ℕ) → Type 0
-EndsRun goes_on status = (status ≢ 0) × (goes_on ≡ false)
-
--- both have a status, and this is the larger one
-pub record Joined {Fault : Type 0} (before behind : Result ℕ Fault) (status : ℕ) : Type 0 where
-  pub first : ℕ
-  pub second : ℕ
-  pub is_first : before ≡ Ok first
-  pub is_second : behind ≡ Ok second
-  pub larger : status ≡ max second first
 
 -- these parts are made in turn, the first from what was found and each other one from what the one before it left. The status is
 -- the largest of theirs. One that ends the run is the last that is made

@@ -1,32 +1,27 @@
 //! The program over handed-in parts, where recipes are run.
-ghost use Rattle.std.specs.Prelude.{◌≡◌, ◌≢◌, ◌⊎◌, ◌≤◌, ℕ, true, false, List, Option, Ok, codes, unwrap_or, IfOk, IfErr};
+ghost use Rattle.std.specs.Prelude.{◌≡◌, ◌⊎◌, ◌≤◌, ℕ, true, false, List, Option, Ok, codes, unwrap_or, IfOk, IfErr};
 ghost use Rattle.mk_reader.specs.declared.item.Item.{Item as MakefileItem};
 ghost use Rattle.st_disk.specs.Moments.{now};
 ghost use Rattle.dmk_reading.specs.Keeping.{keeps, kept_form, value_in};
 ghost use Rattle.dmk_reading.specs.Asked.{AsksToRun};
 ghost use Rattle.dmk_reading.specs.Definitions.{first_defined};
 ghost use Rattle.dmk_reading.specs.Planned.{AreItems};
-ghost use Rattle.dmk_run.specs.Behind.{none_tried};
+ghost use Rattle.dmk_parts.specs.Behind.{none_tried};
 ghost use Rattle.dmk_run.specs.InTurn.{IsParted};
-ghost use Rattle.dmk_run.specs.Made.{Makes, MakesItems, tried_in};
-ghost use Rattle.dmk_run.specs.Opened.{RecoversAsBefore};
+ghost use Rattle.dmk_run.specs.Made.{Makes, MakesItems};
+ghost use Rattle.dmk_parts.specs.Tried.{tried_in};
+ghost use Rattle.dmk_store.specs.Opened.{RecoversAsBefore};
 ghost use Rattle.mk_eval.specs.Output.{World};
 ghost use Rattle.mk_nodes.specs.declared.file_look.FileLook.{FileLook};
 
-use crate::conducting::Wishes;
-use crate::guard::{Guard, hold_state};
-use crate::left::Left;
 use crate::making::make;
-use crate::opening::{disk_of, open_store};
-use crate::planning::{Goals, planned};
-use crate::stop::Stop;
-use crate::tried::Tried;
 use bd_flusher::Receipt;
 use bd_lists::{Exec, Variable};
 use byte_strings::ByteString;
-use dmk_messages::{Fault, Message};
+use dmk_parts::{Goals, Left, Tried, Wishes, planned};
 use dmk_printing::Printer;
 use dmk_reading::{Makefiles, Options, items_of, keeps_state, kept_form};
+use dmk_store::{Guard, Stop, disk_of, hold_state, open_store};
 use jb_recipe::Place;
 use jb_slots::Banks;
 use mk_eval::Includes;
@@ -229,63 +224,6 @@ where
             (Err(Stop::Before(fault)), disk, Left::nothing(alloc))
         }
     }
-}
-
-/// The status of what was found. Why there is no report is printed.
-fn found_status<R: Wait, O: Write + Drop, W: Write + Drop>(
-    printer: &Printer<'_, R, O, W>,
-    state: &str,
-    found: &Result<u8, Stop>,
-) -> u8
-    requires { IfOk found.now (λ s. s ≤ 2) }
-    ensures status { result ≤ 2 }
-    ensures report { result ≢ 2 → found.now ≡ Ok result }
-{
-    match found {
-        Ok(status) => *status,
-        Err(Stop::Before(fault)) => {
-            printer.fault(Message { state, fault });
-            2
-        }
-        Err(Stop::HeldAbove) => {
-            printer.held_above(state);
-            2
-        }
-        // No part is parted again.
-        Err(Stop::Parted(_)) => 2,
-        Err(Stop::NotOnDisk(error)) => {
-            printer.not_on_disk(*error);
-            2
-        }
-        Err(Stop::Run(fault)) => {
-            printer.stop(*fault);
-            2
-        }
-    }
-}
-
-/// The status of what was found, and 2 where not all that was to be printed went out, which is told last. Before it stands which
-/// targets failed.
-pub(crate) fn status_of<R: Wait, O: Write + Drop, W: Write + Drop>(
-    printer: &Printer<'_, R, O, W>,
-    state: &str,
-    found: Result<u8, Stop>,
-) -> u8
-    requires { IfOk found (λ s. s ≤ 2) }
-    ensures status { result ≤ 2 }
-    ensures report { result ≢ 2 → found ≡ Ok result }
-{
-    printer.repeat_failures();
-    let status = found_status(printer, state, &found);
-    drop(found);
-    if printer.is_whole() {
-        return status;
-    }
-    printer.fault(Message {
-        state,
-        fault: &Fault::Write,
-    });
-    2
 }
 
 /// Makes goals by one look at files: the targets that the options name, or the first of the makefile, and what they need. What came

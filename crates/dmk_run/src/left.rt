@@ -4,48 +4,16 @@ ghost use Rattle.std.specs.List.{All};
 ghost use Rattle.jb_closing.specs.declared.report.Report.{Report as RunReport};
 ghost use Rattle.dmk_reading.specs.Lost.{with_unmade};
 ghost use Rattle.dmk_run.specs.InTurn.{IsParted};
-ghost use Rattle.dmk_run.specs.Behind.{none_tried};
-ghost use Rattle.dmk_run.specs.Made.{IsBuilt, IsBuiltWithoutFile, AreFailed, AreTried, tried_in};
+ghost use Rattle.dmk_parts.specs.Tried.{IsBuilt, IsBuiltWithoutFile, AreFailed, AreTried, tried_in};
 
 use crate::building::reported;
-use crate::made::{Made, failed_in, filed_in, made_in};
-use crate::standing::{Standing, standing_in};
-use crate::stop::Stop;
+use crate::standing::standing_in;
 use byte_strings::ByteStrings;
+use dmk_parts::{Left, Made, Standing, failed_in, filed_in, made_in};
+use dmk_store::Stop;
 use jb_closing::{Report, RunFault};
 use mk_nodes::Graph;
 use std::alloc::{AllocError, Global};
-
-/// What a part of a run leaves to those behind it, beside the state's disk.
-#[derive(Drop)]
-pub struct Left {
-    /// What was judged up to date where a recipe was run.
-    pub(crate) standing: Vec<Standing>,
-    /// What was built and had no file; none where nothing comes behind.
-    pub(crate) made: Vec<Made>,
-    /// The names of what was built and had one; none likewise.
-    pub(crate) filed: ByteStrings,
-    /// The names of what failed.
-    pub(crate) failed: ByteStrings,
-}
-
-impl Left {
-    pub(crate) fn nothing(alloc: Global) -> Left
-        ensures { tried_in result ≡ none_tried }
-    {
-        Left {
-            standing: Vec::new(alloc),
-            made: Vec::new(alloc),
-            filed: ByteStrings::empty(alloc),
-            failed: ByteStrings::empty(alloc),
-        }
-    }
-
-    pub(crate) fn into_standing(self) -> Vec<Standing> {
-        let Left { standing, .. } = self;
-        standing
-    }
-}
 
 /// Whether targets may be made once more behind a run over the graph: in the wide profile those that were judged up to date.
 fn may_be_lost(graph: &Graph, standing: &[Standing]) -> bool {

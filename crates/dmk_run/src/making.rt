@@ -5,22 +5,20 @@ ghost use Rattle.st_file.specs.Layout.{IsReadIn};
 ghost use Rattle.st_recovery.specs.Recovers.{IsMadeOf};
 ghost use Rattle.st_recovery.specs.Stored.{IsStoredOnIn};
 ghost use Rattle.dmk_run.specs.InTurn.{IsParted};
-ghost use Rattle.dmk_run.specs.Made.{HasMade, tried_in};
-ghost use Rattle.dmk_run.specs.Planned.{recorded_in};
+ghost use Rattle.dmk_run.specs.Made.{HasMade};
+ghost use Rattle.dmk_parts.specs.Tried.{tried_in};
+ghost use Rattle.dmk_parts.specs.Planned.{recorded_in};
 
 use crate::building::{Built, build};
-use crate::conducting::Wishes;
+use crate::counting::count;
 use crate::driver::Means;
-use crate::left::{Left, came_to};
-use crate::opening::disk_of;
-use crate::planning::{Plan, recorded_apart};
-use crate::refusing::ready_recipes;
+use crate::left::came_to;
 use crate::settling::is_none_to_run;
-use crate::stop::Stop;
-use crate::unmade::with_unmade;
 use bd_flusher::Receipt;
 use bd_lists::Exec;
+use dmk_parts::{Left, Plan, Wishes, ready_recipes, recorded_apart, with_unmade};
 use dmk_printing::Printer;
+use dmk_store::{Stop, disk_of};
 use jb_recipe::Place;
 use jb_slots::Banks;
 use st_disk::Disk;
@@ -80,9 +78,11 @@ where
         }
     };
     let workers = wishes.workers(&graph.settings);
+    let counting = conduct.counts_records;
     let newest = conduct.form;
     let store = StoreIn { log, state, newest };
     let Built { found, store } = build(rt, alloc, means, &graph, conduct, workers, banks, store);
+    count(alloc, counting, &graph, means.say, &found);
     let StoreIn {
         log,
         state,

@@ -1,11 +1,11 @@
 //! A run in which no recipe is to be run: nobody is started for it.
 ghost use Rattle.std.specs.Prelude.{◌≡◌, true};
-ghost use Rattle.dmk_run.specs.Planned.{recorded_in};
+ghost use Rattle.dmk_parts.specs.Planned.{recorded_in};
 ghost use Rattle.dmk_run.specs.Settled.{IsNoneToRun};
 
 use crate::known::are_known_done;
-use crate::planning::Plan;
 use byte_strings::ByteStrings;
+use dmk_parts::Plan;
 use dmk_reading::unlisted;
 use jb_recipe::Say;
 use mk_nodes::Graph;

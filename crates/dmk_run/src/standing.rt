@@ -1,8 +1,8 @@
 //! Targets that were judged up to date, looked at once more when a part is made.
 
-use crate::parting::has_file;
 use bd_places::End;
 use byte_strings::{ByteString, ByteStrings};
+use dmk_parts::{Standing, has_file};
 use dmk_printing::Printer;
 use jb_closing::{Report, RunFault};
 use jb_recipe::Place;
@@ -12,24 +12,6 @@ use mk_rules::Tree;
 use std::alloc::{AllocError, Global};
 use std::io::Write;
 use std::sync::Wait;
-
-/// A target that was judged up to date, by this time of its file.
-pub struct Standing {
-    pub(crate) name: ByteString,
-    pub(crate) time: i128,
-    /// It can be made again. A file without a recipe can't.
-    pub(crate) has_recipe: bool,
-}
-
-impl Drop for Standing {
-    fn drop(self) {
-        let Standing {
-            name: _,
-            time: _,
-            has_recipe: _,
-        } = self;
-    }
-}
 
 /// What became of the file of a target that was judged up to date.
 #[derive(Clone, Copy, Debug, PartialEq, Eq)]

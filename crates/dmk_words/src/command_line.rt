@@ -4,6 +4,7 @@ ghost use Rattle.dmk_reading.specs.Asked.{AsksToRun};
 
 use crate::arguments::{find, output_of, refusal};
 use crate::definition::definition_in;
+use crate::descriptors::with_pool_path;
 use crate::environment::read_environment;
 use crate::flags::taken_words;
 use crate::job_words::with_numbers;
@@ -64,7 +65,8 @@ pub fn read_words(rt: HostRuntime, processors: u16) -> Result<Request, WordsFaul
     let Some(words) = with_flags(alloc, words, makeflags)? else {
         return Err(WordsFault::FlagsNotText);
     };
-    let above = workers_by(alloc, makeflags, processors, MAX_WORKERS)?;
+    let flags = with_pool_path(rt, makeflags)?;
+    let above = workers_by(alloc, &flags, processors, MAX_WORKERS)?;
     let found = find(alloc, count.as_str(), ArgAction::Append, &words);
     match answered(rt, found, above) {
         Ok(asked) => {

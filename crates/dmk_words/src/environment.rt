@@ -4,6 +4,7 @@ ghost use Rattle.mk_profile.specs.Profile.{is_wide};
 ghost use Rattle.dmk_reading.specs.Asked.{AsksForLanguage};
 ghost use Rattle.dmk_reading.specs.Keeping.{value_in};
 
+use crate::descriptors::with_pool_path;
 use crate::flags::flags_seen;
 use crate::request::Later;
 use bd_lists::Variable;
@@ -102,8 +103,8 @@ fn push(
 }
 
 /// The variables in this language: in the wide one CURDIR is the folder that is worked in, whatever the environment says of it (POSIX
-/// make, "Macros"), and SHELL isn't taken, with -e neither. Behind them stand MAKEFLAGS as it came, and MAKELEVEL, which is 0, and MAKE,
-/// unless the environment has them. They aren't handed to recipes. What the folder or the program has no name for isn't there.
+/// make, "Macros"), and SHELL isn't taken, with -e neither. Behind them stand MAKEFLAGS as it is read, and MAKELEVEL, which is 0, and
+/// MAKE, unless the environment has them. They aren't handed to recipes. What the folder or the program has no name for isn't there.
 fn with_own(
     rt: HostRuntime,
     profile: Profile,
@@ -116,7 +117,7 @@ fn with_own(
         return Ok(environment);
     }
     let alloc = rt.alloc();
-    let flags = Vec::from_slice(alloc, value_of(&environment, b"MAKEFLAGS"))?;
+    let flags = with_pool_path(rt, value_of(&environment, b"MAKEFLAGS"))?;
     let mut variables = Vec::with_capacity(alloc, environment.len())?;
     let has_make = has_variable(&environment, b"MAKE");
     let has_level = has_variable(&environment, b"MAKELEVEL");
@@ -151,7 +152,7 @@ pub fn macro_variables(
     with_own(rt, language, program, environment)
 }
 
-/// The variables with MAKEFLAGS as macros see it in the wide profile, behind the one that came. What else is asked of MAKEFLAGS is asked
+/// The variables with MAKEFLAGS as macros see it in the wide profile, behind the one that is read. What else is asked of MAKEFLAGS is asked
 /// of the first one.
 pub fn with_flags_seen(
     alloc: Global,

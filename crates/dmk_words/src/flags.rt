@@ -9,7 +9,7 @@ use crate::request::Later;
 use bd_lists::Variable;
 use byte_strings::ByteStrings;
 use dmk_reading::Options;
-use jb_flags::{Handed, definition_words, has_value, jobs_word, words_of};
+use jb_flags::{Handed, definition_words, has_value, jobs_word, opened_words, words_of};
 use mk_eval::doubled_text;
 use std::alloc::{AllocError, Global};
 
@@ -42,10 +42,15 @@ fn long_output(word: &[u8]) -> Option<Output> {
     }
 }
 
-/// Appends the option by which what recipes write is held so, as makes have it.
-fn push_output(words: &mut Vec<u8>, output: Output) -> Result<(), AllocError> {
+/// Appends the option by which what recipes write is held so, as makes have it: this word.
+fn push_output(words: &mut Vec<u8>, word: &str) -> Result<(), AllocError> {
     words.extend_from_slice(b"-O")?;
-    words.extend_from_slice(output.word().as_bytes())
+    words.extend_from_slice(word.as_bytes())
+}
+
+/// GNU make's word for how what recipes write is held, where that is said and it has one.
+fn output_word(later: Later) -> Option<&'static str> {
+    later.output?.word()
 }
 
 /// Takes how what recipes write is to be held together, where that is said.
@@ -54,10 +59,10 @@ fn take_output(
     taken: &mut ByteStrings,
     output: Option<Output>,
 ) -> Result<(), AllocError> {
-    if let Some(output) = output {
-        let mut word = Vec::new(alloc);
-        push_output(&mut word, output)?;
-        taken.push(&word)?;
+    if let Some(word) = output.and_then(Output::word) {
+        let mut taken_word = Vec::new(alloc);
+        push_output(&mut taken_word, word)?;
+        taken.push(&taken_word)?;
     }
     Ok(())
 }
@@ -128,9 +133,9 @@ fn option_word(alloc: Global, options: &Options, later: Later) -> Result<Vec<u8>
 /// The options that makes below are told: a word of letters, and behind it one with a value and a long one (GNU make).
 fn option_words(alloc: Global, options: &Options, later: Later) -> Result<Vec<u8>, AllocError> {
     let mut words = option_word(alloc, options, later)?;
-    if let Some(output) = later.output {
+    if let Some(word) = output_word(later) {
         words.push(b' ')?;
-        push_output(&mut words, output)?;
+        push_output(&mut words, word)?;
     }
     if later.hides_folder {
         words.push(b' ')?;
@@ -196,6 +201,7 @@ pub fn handed_on(
         options: option_words(alloc, options, later)?,
         slots: shared_slots(alloc, options.workers, makeflags)?,
         alone: own_slot(alloc, later.has_jobs)?,
+        opened: opened_words(alloc, options.workers)?,
         definitions: definition_words(alloc, definitions)?,
         level: Vec::from_slice(alloc, level.as_bytes())?,
     }))

@@ -4,6 +4,7 @@
 mod arguments;
 mod command_line;
 mod definition;
+mod descriptors;
 mod environment;
 mod flags;
 mod job_words;

@@ -199,7 +199,7 @@ static OPTIONS: [Row; 33] = [
         takes: Takes::Perhaps("MODE", HELD),
         role: Role::Told(
             TELLING,
-            "Print what recipes write in blocks when they end\n(block) or as it comes (through); MODE stands in\nthe same word",
+            "Print what recipes write in blocks when they end\n(block), the oldest one's as it comes (front), or\nas it comes (through); MODE stands in the same\nword",
         ),
     },
     Row {

@@ -1,17 +1,20 @@
 //! How what recipes write is held together.
-ghost use Rattle.std.specs.Prelude.{◌≡◌, ◌↔◌, false, None, Some, IfSome, IsTrue};
+ghost use Rattle.std.specs.Prelude.{◌≡◌, ◌≤◌, ◌↔◌, false, None, Some, IfSome, IsTrue};
 ghost use Rattle.mk_profile.specs.Profile.{is_wide};
 ghost use Rattle.dmk_words.specs.Output.{asked_by, word_of};
-ghost use Rattle.dmk_words.specs.declared.output.Output.TheVariants.{Unheld};
+ghost use Rattle.dmk_words.specs.declared.output.Output.TheVariants.{Unheld, AtFront};
 
 use crate::request::Later;
 use dmk_reading::Options;
 
-/// How what recipes write is held together, as GNU make tells it apart. What is held is here held until its recipe ends.
+/// How what recipes write is held together: as GNU make tells it apart, or so that one recipe at a time isn't held. What is held is here
+/// held until its recipe ends.
 #[derive(Clone, Copy, Debug, PartialEq, Eq)]
 pub enum Output {
     /// It isn't held.
     Unheld,
+    /// That of the oldest recipe that runs isn't held, as far as its lines are whole.
+    AtFront,
     ByLine,
     ByTarget,
     ByMake,
@@ -24,6 +27,7 @@ impl Output {
     {
         match word {
             "through" | "none" => Some(Output::Unheld),
+            "front" => Some(Output::AtFront),
             "line" => Some(Output::ByLine),
             "block" | "target" => Some(Output::ByTarget),
             "recurse" => Some(Output::ByMake),
@@ -31,16 +35,18 @@ impl Output {
         }
     }
 
-    /// GNU make's word for it, by which a make below holds it alike.
-    pub fn word(self) -> &'static str
-        ensures text { result.now ≡ word_of self }
-        ensures same { asked_by result.now ≡ Some self }
+    /// GNU make's word for it, by which a make below holds it alike. It has none for the one recipe that isn't held.
+    pub fn word(self) -> Option<&'static str>
+        ensures text { IfSome result (λ word. word_of self ≡ Some word.now) }
+        ensures none { result ≡ None ↔ (word_of self ≡ None) }
+        ensures same { IfSome result (λ word. asked_by word.now ≡ Some self) }
     {
         match self {
-            Output::Unheld => "none",
-            Output::ByLine => "line",
-            Output::ByTarget => "target",
-            Output::ByMake => "recurse",
+            Output::Unheld => Some("none"),
+            Output::AtFront => None,
+            Output::ByLine => Some("line"),
+            Output::ByTarget => Some("target"),
+            Output::ByMake => Some("recurse"),
         }
     }
 }
@@ -55,6 +61,18 @@ impl Later {
         match self.output {
             Some(output) => output == Output::Unheld,
             None => options.profile.is_wide() && options.workers == 1,
+        }
+    }
+    /// Whether what the oldest recipe that runs writes is printed as it comes: as is asked for, else where several run at once in the wide
+    /// profile.
+    pub fn writes_at_front(self, options: &Options) -> bool
+        ensures asked { IfSome self.output (λ output. IsTrue result ↔ (output ≡ AtFront)) }
+        ensures strict { self.output ≡ None → is_wide options.now.profile ≡ false → result ≡ false }
+        ensures wide { self.output ≡ None → IsTrue (is_wide options.now.profile) → (result ≡ false ↔ (options.now.workers ≡ 1)) }
+    {
+        match self.output {
+            Some(output) => output == Output::AtFront,
+            None => options.profile.is_wide() && options.workers != 1,
         }
     }
 }

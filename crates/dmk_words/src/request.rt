@@ -75,7 +75,7 @@ pub enum WordsFault {
     /// An option of GNU make, and why it isn't followed.
     #[error("{0} isn't supported: {1}")]
     Unsupported(&'static str, &'static str),
-    #[error("--output takes block or through, or GNU make's words none, line, target or recurse")]
+    #[error("--output takes block, front or through, or GNU make's words none, line, target or recurse")]
     OtherOutput,
     #[error("--trust-files needs --posix")]
     TrustInStrict,

@@ -284,8 +284,10 @@ impl<R: Wait> Place for HostPlace<'_, R> {
         Some(i128::from(found.mtime()) * 1_000_000_000 + i128::from(found.mtime_nsec()))
     }
 
+    // Two ticks: files may be stamped finer than this clock ticks (Linux 6.13), and a tick that comes late is behind by as much as one.
     fn pass_tick(&self, tick: i128) {
         self.wait_for_tick(tick);
+        self.wait_for_tick(last_tick());
     }
 
     fn sync(&self, target: &[u8]) -> Result<(), PlaceFault> {

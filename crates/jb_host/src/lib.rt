@@ -3,6 +3,8 @@
 
 mod dry_shell;
 mod folder_syncs;
+mod heard;
+mod hears;
 mod host_place;
 mod laws;
 mod shared_syncs;
@@ -13,8 +15,9 @@ mod surroundings;
 mod writes;
 
 pub use dry_shell::{DryShell, Written};
+pub use hears::{Hears, Stream};
 pub use host_place::{HostPlace, folder_of};
 pub use laws::served_by_later_syncs;
 pub use shell::{BeforeLines, HOLDS, HeldLock, Shell};
-pub use stops::Stops;
+pub use stops::{Stops, worker_name};
 pub use writes::Writes;

@@ -4,6 +4,8 @@ ghost use Rattle.std.specs.Process.{command_program, command_args, exit_code};
 ghost use Rattle.byte_strings.specs.Blanks.{words};
 ghost use Rattle.jb_host.specs.Shell.{started};
 
+use crate::heard::status_heard;
+use crate::hears::Hears;
 use crate::stops::Stops;
 use crate::surroundings::Surroundings;
 use crate::writes::Writes;
@@ -15,7 +17,7 @@ use std::alloc::{AllocError, Global};
 use std::fs::File;
 use std::io::{self, ErrorKind};
 use std::os::unix::process::ExitStatusExt;
-use std::process::{Command, Output, Stdio};
+use std::process::{Command, ExitStatus, Output, Stdio};
 use std::sync::{OnceLock, Wait};
 
 /// The lock on a state, as the recipes of the run that keeps it inherit it: who has a handle to the file holds the lock.
@@ -59,10 +61,10 @@ impl BeforeLines {
 }
 
 /// Runs each line as `/bin/sh -c TEXT`, or by the shell that the makefile names, with empty standard input, in dmk's own
-/// environment and the recipe's variables. What it writes is collected, unless it shares dmk's own streams. Nothing is claimed of the
-/// shell.
+/// environment and the recipe's variables. What it writes is collected, unless it is heard as it comes or shares dmk's own streams.
+/// Nothing is claimed of the shell.
 #[derive(Drop)]
-pub struct Shell<'a, R: Wait> {
+pub struct Shell<'a, R: Wait, H> {
     rt: HostRuntime,
     alloc: Global,
     before: &'a BeforeLines,
@@ -70,6 +72,7 @@ pub struct Shell<'a, R: Wait> {
     surroundings: OnceLock<Option<Surroundings>>,
     stops: &'a Stops<'a, R>,
     writes: Writes,
+    hears: &'a H,
 }
 
 /// A line's command can't be made: memory or a descriptor was refused, or a text isn't UTF-8.
@@ -202,14 +205,15 @@ pub(crate) fn shell_command(
     }
 }
 
-impl<'a, R: Wait> Shell<'a, R> {
+impl<'a, R: Wait, H: Hears> Shell<'a, R, H> {
     pub fn new(
         rt: HostRuntime,
         alloc: Global,
         before: &'a BeforeLines,
         stops: &'a Stops<'a, R>,
         writes: Writes,
-    ) -> Shell<'a, R> {
+        hears: &'a H,
+    ) -> Shell<'a, R, H> {
         Shell {
             rt,
             alloc,
@@ -217,6 +221,7 @@ impl<'a, R: Wait> Shell<'a, R> {
             surroundings: OnceLock::new(),
             stops,
             writes,
+            hears,
         }
     }
 
@@ -273,21 +278,48 @@ impl<'a, R: Wait> Shell<'a, R> {
         }
     }
 
+    // Whether what a line writes is heard, and then under which number.
+    fn number(&self, line: &Line) -> Option<u64> {
+        if self.writes != Writes::Heard || self.writes.shares(line) {
+            return None;
+        }
+        self.hears.number()
+    }
+
+    fn note_signal(&self, status: ExitStatus) {
+        if let Some(signal) = status.signal() {
+            self.stops.note(Stopped::By(Signal(signal)));
+        }
+    }
+
     // Why a line has no status is noted.
+    fn not_started(&self, error: io::Error) -> ExecFault {
+        self.stops.note(Stopped::NotStarted(error));
+        ExecFault
+    }
+
     fn ended_by(&self, command: &mut Command) -> Result<Ended, ExecFault>
         ensures { IfOk result (λ ended. ended.status ≤ 256) }
     {
         match command.output(&self.rt) {
             Ok(output) => {
-                if let Some(signal) = output.status.signal() {
-                    self.stops.note(Stopped::By(Signal(signal)));
-                }
+                self.note_signal(output.status);
                 Ok(ended(output))
             }
-            Err(error) => {
-                self.stops.note(Stopped::NotStarted(error));
-                Err(ExecFault)
+            Err(error) => Err(self.not_started(error)),
+        }
+    }
+
+    // What it writes is heard, so nothing of it is left to be told.
+    fn heard_by(&self, command: Command, number: u64) -> Result<Ended, ExecFault>
+        ensures { IfOk result (λ ended. ended.status ≤ 256) }
+    {
+        match status_heard(self.rt, command, self.hears, number) {
+            Ok(status) => {
+                self.note_signal(status);
+                Ok(ended_silently(self.alloc, status))
             }
+            Err(error) => Err(self.not_started(error)),
         }
     }
 }
@@ -320,7 +352,19 @@ fn ended(output: Output) -> Ended
     }
 }
 
-impl<T, R: Wait> Exec<T> for Shell<'_, R> {
+// How a line ended of which nothing was collected.
+fn ended_silently(alloc: Global, status: ExitStatus) -> Ended
+    ensures within { result.status ≤ 256 }
+    ensures status { (number : ℕ) → exit_code status ≡ Some (pos number) → number ≤ 256 → result.status ≡ number }
+{
+    Ended {
+        status: status_of(status.code()),
+        out: ByteString::new(Vec::new(alloc)),
+        err: ByteString::new(Vec::new(alloc)),
+    }
+}
+
+impl<T, R: Wait, H: Hears> Exec<T> for Shell<'_, R, H> {
     ghost answers = { λ shell env line answer. Unit {0} };
 
     fn run(
@@ -330,16 +374,16 @@ impl<T, R: Wait> Exec<T> for Shell<'_, R> {
         env: &[Variable],
     ) -> Result<Ended, ExecFault> {
         match self.command(line, env) {
-            Ok(mut command) => {
-                self.set_output(&mut command, line);
-                let ended = self.ended_by(&mut command);
-                drop(command);
-                ended
-            }
-            Err(NoCommand(error)) => {
-                self.stops.note(Stopped::NotStarted(error));
-                Err(ExecFault)
-            }
+            Ok(mut command) => match self.number(line) {
+                Some(number) => self.heard_by(command, number),
+                None => {
+                    self.set_output(&mut command, line);
+                    let ended = self.ended_by(&mut command);
+                    drop(command);
+                    ended
+                }
+            },
+            Err(NoCommand(error)) => Err(self.not_started(error)),
         }
     }
 }

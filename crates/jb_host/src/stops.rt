@@ -21,6 +21,14 @@ pub struct Stops<'a, R: Wait> {
     noted: Mutex<Vec<Stop>>,
 }
 
+/// The thread of a worker, as the system names it; None where it doesn't tell.
+pub fn worker_name(host: HostRuntime) -> Option<String> {
+    match fs::read_link(&host, "/proc/thread-self") {
+        Ok(path) => Some(path.into_string()),
+        Err(_) => None,
+    }
+}
+
 impl<'a, R: Wait> Stops<'a, R> {
     pub fn new(rt: &'a R, host: HostRuntime) -> Stops<'a, R> {
         Stops {
@@ -30,12 +38,9 @@ impl<'a, R: Wait> Stops<'a, R> {
         }
     }
 
-    // None where the system doesn't tell: then nothing is noted.
+    // Where the system doesn't tell, nothing is noted.
     fn worker(&self) -> Option<String> {
-        match fs::read_link(&self.host, "/proc/thread-self") {
-            Ok(path) => Some(path.into_string()),
-            Err(_) => None,
-        }
+        worker_name(self.host)
     }
 
     /// Notes what became of a line that this worker ran.

@@ -9,6 +9,8 @@ use mk_recipe::Line;
 pub enum Writes {
     /// It is collected, but for lines of the wide profile that may call make: of these nothing is held back.
     Apart,
+    /// Likewise, but it is heard as it comes.
+    Heard,
     /// Each line writes on dmk's own standard output and error.
     Through,
 }
@@ -19,7 +21,7 @@ impl Writes {
         ensures { IsTrue result ↔ IsShared self line.now }
     {
         match self {
-            Writes::Apart => line.is_always_run,
+            Writes::Apart | Writes::Heard => line.is_always_run,
             Writes::Through => true,
         }
     }

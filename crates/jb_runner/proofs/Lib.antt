@@ -1,3 +1,2 @@
 pub mod BoardLemmas
-pub mod OrderLemmas
 pub mod RunningLemmas

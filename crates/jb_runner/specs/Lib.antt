@@ -1,4 +1,3 @@
 pub mod Earlier
-pub mod InOrder
 pub mod Making
 pub mod Serving

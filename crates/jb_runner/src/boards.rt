@@ -4,12 +4,12 @@ ghost use Rattle.std.specs.Prelude.{◌≡◌, ℕ, false, List, IfOk};
 ghost use Rattle.bd_ledger.specs.Sheet.{first_sheet_in};
 ghost use Rattle.mk_graph.specs.Counted.{AreSets, joined};
 ghost use Rattle.mk_nodes.specs.Graph.{required_in, counting_in};
-ghost use Rattle.jb_runner.specs.InOrder.{HasAlso};
+ghost use Rattle.jb_order.specs.InOrder.{HasAlso};
 
-use crate::in_order::edges_in_order;
 use bd_flusher::Receipt;
 use bd_lists::BoardIn;
 use byte_strings::ByteString;
+use jb_order::edges_in_order;
 use mk_graph::{Names, counted_edges};
 use mk_nodes::Graph;
 use st_records::Form;

@@ -8,19 +8,22 @@ ghost use Rattle.jb_recipe.specs.Environment.{NamesReport};
 use crate::beginning::Begun;
 use crate::bench::{Bench, complain};
 use crate::earlier::EndedBefore;
+use crate::failing::{Over, say_block, tell_end};
 use crate::making::say_lines;
 use crate::pending::Pending;
 use crate::shift::Shift;
 use bd_flusher::Receipt;
 use bd_links::Node;
 use bd_lists::{Clearance, Exec, Recipe, Spent};
+use byte_strings::ByteStrings;
 use jb_closing::RunFault;
 use jb_recipe::{
-    EndNote, Last, News, NotDone, Place, PlaceFault, Plan, Ran, Say, Spoken, leave_recipe,
+    EndNote, FailedLine, Last, News, Place, PlaceFault, Plan, Ran, Say, Spoken, leave_recipe,
     run_recipe,
 };
 use jb_slots::Bank;
 use mk_nodes::Graph;
+use mk_plan::Telling;
 use st_disk::Disk;
 use st_records::Record;
 use std::alloc::Global;
@@ -40,16 +43,6 @@ fn failed_status(note: &Record) -> Option<u32> {
     }
 }
 
-// What the lines wrote is said.
-fn say_block<S: Say>(say: &S, ran: Ran) -> Spent<Receipt>
-    ensures { result ≡ ran.spent }
-{
-    let Ran { ended, spent } = ran;
-    say.block(&ended);
-    drop(ended);
-    spent
-}
-
 // Says that the recipe was to report what it read, and didn't, where that is so.
 fn tell_unreported<S: Say>(say: &S, graph: &Graph, node: Node, unreported: bool) {
     let number = node.number();
@@ -59,35 +52,24 @@ fn tell_unreported<S: Say>(say: &S, graph: &Graph, node: Node, unreported: bool)
     }
 }
 
-fn tell_failed<S: Say>(
+// Says which files the recipe was to write what it read into, and didn't, where so much is told.
+fn tell_unwritten<S: Say>(
     say: &S,
     graph: &Graph,
     node: Node,
-    status: u32,
-    not_done: Option<&NotDone>,
+    telling: Telling,
+    unwritten: Option<&ByteStrings>,
 ) {
     let number = node.number();
-    if number < graph.names.len() {
-        let target = graph.names.name(number);
-        say.tell(News::Failed {
-            target,
-            status,
-            not_done,
-        });
+    let Some(paths) = unwritten else {
+        return;
+    };
+    if matches!(telling, Telling::Nothing) || number >= graph.names.len() {
+        return;
     }
-}
-
-// A failed end is told.
-fn tell_end<S: Say>(
-    say: &S,
-    graph: &Graph,
-    end: &Pending,
-    not_done: Option<&NotDone>,
-    shift: &mut Shift,
-) {
-    if let Some(status) = end.failed {
-        tell_failed(say, graph, end.node, status, not_done);
-        shift.worsen(1);
+    let target = graph.names.name(number);
+    for path in paths {
+        say.tell(News::Unwritten { target, path });
     }
 }
 
@@ -111,6 +93,7 @@ impl<D: Disk + Drop, E: Exec<Receipt>, S: Say, P: Place> Bench<'_, D, E, S, P> {
             exec: self.exec,
             say: self.say,
             target: note.target(),
+            tells_failed: self.graph.macros.profile().is_wide(),
         };
         let slot = self.slots.acquire(rt, bank);
         let ran = run_recipe(
@@ -194,7 +177,7 @@ impl<D: Disk + Drop, E: Exec<Receipt>, S: Say, P: Place> Bench<'_, D, E, S, P> {
             }
             Err(PlaceFault::Device(error)) => {
                 let spent = leave_recipe(alloc, clearance, recipe);
-                self.write_end(rt, alloc, node, note.left(error), spent, shift)
+                self.write_end(rt, alloc, node, note.left(error), None, spent, shift)
             }
             Err(PlaceFault::OutOfMemory) => {
                 drop(recipe);
@@ -243,14 +226,15 @@ impl<D: Disk + Drop, E: Exec<Receipt>, S: Say, P: Place> Bench<'_, D, E, S, P> {
         requires status { FailsInRange ran.spent.outcome }
         requires form { note.form ≡ self.now.clerk.desk.conduct.now.form }
     {
-        let spent = say_block(self.say, ran);
+        let (spent, failed) = say_block(self.say, ran);
         let outcome = spent.outcome();
         match note.last_record(alloc, self.key, self.place, ended, outcome) {
             Ok(last) => {
                 self.note_ended(rt, node, last.is_same);
-                self.write_end(rt, alloc, node, last, spent, shift)
+                self.write_end(rt, alloc, node, last, failed, spent, shift)
             }
             Err(_) => {
+                drop(failed);
                 shift.keep(spent.give_up());
                 Err(RunFault::OutOfMemory)
             }
@@ -264,6 +248,7 @@ impl<D: Disk + Drop, E: Exec<Receipt>, S: Say, P: Place> Bench<'_, D, E, S, P> {
         alloc: Global,
         node: Node,
         last: Last,
+        line: Option<FailedLine>,
         spent: Spent<Receipt>,
         shift: &mut Shift,
     ) -> Result<(), RunFault>
@@ -273,12 +258,20 @@ impl<D: Disk + Drop, E: Exec<Receipt>, S: Say, P: Place> Bench<'_, D, E, S, P> {
             record,
             not_done,
             unreported,
+            unwritten,
             is_same: _,
         } = last;
         tell_unreported(self.say, self.graph, node, unreported);
+        let telling = self.clerk.desk.conduct.telling;
+        tell_unwritten(self.say, self.graph, node, telling, unwritten.as_ref());
+        drop(unwritten);
         match record {
-            Some(last) => self.submit_end(rt, alloc, node, last, not_done, spent, shift),
+            Some(last) => {
+                let over = Over { not_done, line };
+                self.submit_end(rt, alloc, node, last, over, spent, shift)
+            }
             None => {
+                drop(line);
                 shift.keep(spent.give_up());
                 self.not_recorded(rt, node, None, shift);
                 Ok(())
@@ -292,7 +285,7 @@ impl<D: Disk + Drop, E: Exec<Receipt>, S: Say, P: Place> Bench<'_, D, E, S, P> {
         alloc: Global,
         node: Node,
         last: Record,
-        not_done: Option<NotDone>,
+        over: Over,
         spent: Spent<Receipt>,
         shift: &mut Shift,
     ) -> Result<(), RunFault>
@@ -300,6 +293,7 @@ impl<D: Disk + Drop, E: Exec<Receipt>, S: Say, P: Place> Bench<'_, D, E, S, P> {
     {
         let Ok(copy) = last.copy(alloc) else {
             drop(last);
+            drop(over);
             shift.keep(spent.give_up());
             return Err(RunFault::OutOfMemory);
         };
@@ -312,11 +306,13 @@ impl<D: Disk + Drop, E: Exec<Receipt>, S: Say, P: Place> Bench<'_, D, E, S, P> {
                     note: copy,
                     failed,
                 };
-                tell_end(self.say, self.graph, &end, not_done.as_ref(), shift);
+                tell_end(self.say, self.graph, &end, &over, shift);
+                drop(over);
                 self.clerk.leave_pending(rt, alloc, end, shift)
             }
             None => {
                 drop(copy);
+                drop(over);
                 self.not_recorded(rt, node, None, shift);
                 Ok(())
             }

@@ -5,8 +5,9 @@ use Rattle.st_disk.specs.Moments.{now}
 use Rattle.mk_rule_lines.proofs.ResultLemmas.{if_ok}
 use Rattle.dmk_reading.specs.Keeping.{keeps, kept_form}
 use Rattle.dmk_reading.proofs.AllowedLemmas.{each_ok}
-use Rattle.dmk_run.specs.Behind.{none_tried}
-use Rattle.dmk_run.specs.Made.{MakesItems, tried_in}
+use Rattle.dmk_parts.specs.Behind.{none_tried}
+use Rattle.dmk_run.specs.Made.{MakesItems}
+use Rattle.dmk_parts.specs.Tried.{tried_in}
 use Rattle.dmk_run.proofs.DriverLemmas.{found_without_state, same_as_before}
 use Rattle.mk_nodes.specs.declared.file_look.FileLook.{FileLook}
 use Rattle.dmk_run.proofs.driver.run_items.Goals as goal

@@ -8,11 +8,12 @@ use Rattle.st_recovery.specs.Recovers.{IsMadeOf}
 use Rattle.st_recovery.specs.Stored.{IsStoredOnIn}
 use Rattle.dmk_reading.specs.Keeping.{kept_form}
 use Rattle.dmk_reading.proofs.AllowedLemmas.{each_ok}
-use Rattle.dmk_run.specs.Behind.{none_tried}
+use Rattle.dmk_parts.specs.Behind.{none_tried}
 use Rattle.dmk_reading.specs.Planned.{IsStateOn}
-use Rattle.dmk_run.specs.Opened.{RecoversAsBefore}
-use Rattle.dmk_run.specs.Planned.{recorded_in}
-use Rattle.dmk_run.specs.Made.{MakesItems, tried_in}
+use Rattle.dmk_store.specs.Opened.{RecoversAsBefore}
+use Rattle.dmk_parts.specs.Planned.{recorded_in}
+use Rattle.dmk_run.specs.Made.{MakesItems}
+use Rattle.dmk_parts.specs.Tried.{tried_in}
 use Rattle.dmk_run.proofs.DriverLemmas.{made_items, left_as_before}
 use Rattle.dmk_run.proofs.driver.run_over.Goals as goal
 

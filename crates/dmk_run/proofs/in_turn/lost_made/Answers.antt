@@ -1,5 +1,5 @@
 use Rattle.std.proofs.Common.{◌≢◌, [], rules, IfOk}
-use Rattle.dmk_run.specs.InTurn.{GoesOn}
+use Rattle.dmk_parts.specs.Parts.{GoesOn}
 use Rattle.dmk_run.proofs.InTurnLemmas.{as_it_is, made_behind}
 use Rattle.dmk_run.proofs.in_turn.lost_made.Goals as goal
 

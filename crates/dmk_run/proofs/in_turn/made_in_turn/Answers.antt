@@ -1,7 +1,7 @@
 use Rattle.std.proofs.Common.{inl, refl, rules, IfOk, arith}
 use Rattle.mk_rule_lines.proofs.ResultLemmas.{if_ok}
-use Rattle.dmk_run.specs.Behind.{none_tried}
-use Rattle.dmk_run.specs.InTurn.{GoesOn, EndsRun}
+use Rattle.dmk_parts.specs.Behind.{none_tried}
+use Rattle.dmk_parts.specs.Parts.{GoesOn, EndsRun}
 use Rattle.dmk_run.proofs.InTurnLemmas.{with_lost, next_made, none_yet, none_left_of, ended, leaves_both}
 use Rattle.dmk_run.proofs.in_turn.made_in_turn.Goals.{else-loop-targets-test, then-loop-targets-test+then-not-goes_on}
 use Rattle.dmk_run.proofs.in_turn.made_in_turn.Goals as goal

@@ -1,6 +1,6 @@
 use Rattle.std.proofs.Common.{◌≡◌, ◌≤◌, false, take, IfOk}
 use Rattle.st_disk.specs.Moments.{now}
-use Rattle.dmk_run.specs.Behind.{none_tried}
+use Rattle.dmk_parts.specs.Behind.{none_tried}
 use Rattle.dmk_run.specs.InTurn.{MakesPart, MakesWithLost, LeavesDisk, MadeInTurn}
 use Rattle.dmk_run.proofs.in_turn.made_in_turn.Given as goal
 

@@ -3,10 +3,11 @@ use Rattle.mk_rule_lines.proofs.ResultLemmas.{if_ok}
 use Rattle.st_disk.specs.Moments.{now}
 use Rattle.mk_profile.specs.declared.profile.Profile.{Profile}
 use Rattle.dmk_reading.specs.Keeping.{kept_form}
-use Rattle.dmk_run.specs.Behind.{none_tried}
-use Rattle.dmk_run.specs.InTurn.{MakesPart, AreParts}
-use Rattle.dmk_run.specs.Made.{AddsTried}
-use Rattle.dmk_run.specs.Opened.{RecoversAsBefore}
+use Rattle.dmk_parts.specs.Behind.{none_tried}
+use Rattle.dmk_run.specs.InTurn.{MakesPart}
+use Rattle.dmk_parts.specs.Parts.{AreParts}
+use Rattle.dmk_parts.specs.Tried.{AddsTried}
+use Rattle.dmk_store.specs.Opened.{RecoversAsBefore}
 use Rattle.dmk_run.proofs.InTurnLemmas.{alone, with_lost, in_parts_over, made_before, before_of, leaves_both, passed_on, part_leaves, part_makes}
 use Rattle.dmk_run.proofs.in_turn.made_whole.Goals as goal
 

@@ -1,5 +1,5 @@
 use Rattle.mk_rule_lines.proofs.ResultLemmas.{if_ok}
-use Rattle.dmk_run.specs.Made.{AreTried, tried_in}
+use Rattle.dmk_parts.specs.Tried.{AreTried, tried_in}
 use Rattle.dmk_run.proofs.DriverLemmas.{at_ok}
 use Rattle.dmk_run.proofs.left.came_to.Goals as goal
 

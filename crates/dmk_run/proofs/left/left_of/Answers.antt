@@ -1,8 +1,8 @@
 use Rattle.std.specs.List.{All}
 use Rattle.std.proofs.lemmas.List.Elements.{All-map}
-use Rattle.dmk_run.specs.Made.{IsBuilt, IsBuiltWithoutFile, AreFailed, AreTried}
-use Rattle.dmk_run.specs.declared.made.Made.{Made}
-use Rattle.dmk_run.proofs.BehindLemmas.{three_ok}
+use Rattle.dmk_parts.specs.Tried.{IsBuilt, IsBuiltWithoutFile, AreFailed, AreTried}
+use Rattle.dmk_parts.specs.declared.made.Made.{Made}
+use Rattle.dmk_parts.proofs.BehindLemmas.{three_ok}
 use Rattle.dmk_run.proofs.left.left_of.Goals as goal
 
 pub returns : goal.returns

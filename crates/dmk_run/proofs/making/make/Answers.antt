@@ -1,8 +1,8 @@
 use Rattle.std.proofs.Common.{arith}
 use Rattle.st_disk.specs.Moments.{now}
 use Rattle.st_recovery.proofs.StoredLemmas.{all_recover}
-use Rattle.dmk_run.specs.Planned.{recorded_in}
-use Rattle.dmk_run.specs.Made.{tried_in}
+use Rattle.dmk_parts.specs.Planned.{recorded_in}
+use Rattle.dmk_parts.specs.Tried.{tried_in}
 use Rattle.dmk_run.proofs.BuildingLemmas.{none_made}
 use Rattle.dmk_run.proofs.making.make.Goals as goal
 

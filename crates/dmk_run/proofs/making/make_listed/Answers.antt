@@ -4,7 +4,7 @@ use Rattle.st_state.specs.State.{StateMap}
 use Rattle.st_recovery.specs.Recovers.{IsMadeOf}
 use Rattle.st_recovery.specs.Stored.{IsStoredOnIn}
 use Rattle.mk_rule_lines.proofs.ResultLemmas.{if_ok}
-use Rattle.dmk_run.specs.Made.{tried_in}
+use Rattle.dmk_parts.specs.Tried.{tried_in}
 use Rattle.dmk_run.proofs.DriverLemmas.{has_made, status_of_report, never_parted}
 use Rattle.dmk_run.proofs.making.make_listed.Goals as goal
 

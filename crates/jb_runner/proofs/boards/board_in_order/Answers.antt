@@ -5,7 +5,7 @@ use Rattle.bd_ledger.specs.Sheet.{AreDistinct, first_sheet_in}
 use Rattle.bd_lists.proofs.OnceLemmas.{times_once}
 use Rattle.mk_nodes.specs.Graph.{required_in}
 use Rattle.mk_graph.proofs.JoinLemmas.{length-joined}
-use Rattle.jb_runner.specs.InOrder.{HasAlso}
+use Rattle.jb_order.specs.InOrder.{HasAlso}
 use Rattle.jb_runner.proofs.BoardLemmas.{same_board}
 use Rattle.jb_runner.proofs.boards.board_in_order.Goals as goal
 

@@ -1,0 +1,8 @@
+//! What a run would make, listed or asked for, over the files of this machine.
+#![tactic(auto)]
+
+mod asking;
+mod options_again;
+mod shell_asked;
+
+pub use asking::ask;

@@ -1,0 +1,3 @@
+pub mod BehindLemmas
+mod PartLemmas
+mod PlanningLemmas

@@ -1,5 +1,0 @@
-use Rattle.dmk_run.proofs.BehindLemmas.{AreKnownSoFar}
-use Rattle.dmk_run.proofs.clearing.known_names.Given as goal
-
-abbrev pub invariant-loop-name : goal.invariant-loop-name
-invariant-loop-name l = AreKnownSoFar l.made l.known l.name-iterator

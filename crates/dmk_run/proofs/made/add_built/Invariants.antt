@@ -1,8 +1,0 @@
-use Rattle.dmk_run.specs.Made.{AddsSome}
-use Rattle.dmk_run.proofs.made.add_built.Given as goal
-
-abbrev pub invariant-loop-one : goal.invariant-loop-one
-invariant-loop-one g l = record {
-  without : AddsSome l.made l.initial.without l.without;
-  filed : AddsSome l.made l.initial.filed l.filed;
-}

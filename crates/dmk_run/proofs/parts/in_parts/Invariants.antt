@@ -1,5 +1,0 @@
-use Rattle.dmk_run.proofs.PartLemmas.{AreCut}
-use Rattle.dmk_run.proofs.parts.in_parts.Given as goal
-
-abbrev pub invariant-loop-goal : goal.invariant-loop-goal
-invariant-loop-goal l = AreCut l.goals l.goal-iterator l.parts.items l.part

@@ -1,0 +1,2 @@
+-- Opened: what a power cut may leave while a store is opened.
+pub mod Opened

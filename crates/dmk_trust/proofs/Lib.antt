@@ -1,0 +1,2 @@
+mod TakingLemmas
+mod TrustingLemmas
