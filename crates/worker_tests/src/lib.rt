@@ -1,6 +1,6 @@
-//! What no program and no row can show of workers: job slots of pools that end or fail, batches that threads share, growths
-//! in vain, reports that aren't true, devices that stop, and how often included files are read; and marks, which no program has
-//! yet. Runs go over memory: a makefile, files by their times, a state on a memory disk, recipe lines answered by their text.
+//! What no program and no row can show of workers: batches that threads share, growths in vain, reports that aren't true, devices that
+//! stop, and how often included files are read. Runs go over memory: a makefile, files by their times, a state on a memory disk, recipe
+//! lines answered by their text.
 #![tactic(auto)]
 
 #[cfg(test)]
@@ -24,12 +24,6 @@ mod lines;
 #[cfg(test)]
 mod makefiles;
 #[cfg(test)]
-mod marks;
-#[cfg(test)]
-mod memory_pool;
-#[cfg(test)]
-mod planned_pipe;
-#[cfg(test)]
 mod pool;
 #[cfg(test)]
 mod refused;
@@ -43,8 +37,6 @@ mod sharing;
 mod states;
 #[cfg(test)]
 mod stopped_devices;
-#[cfg(test)]
-mod stopped_pools;
 #[cfg(test)]
 mod voice;
 #[cfg(test)]

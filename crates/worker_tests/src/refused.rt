@@ -118,12 +118,17 @@ fn tried<R: Wait + Clock + Copy>(
         exec: fake,
         say: fake,
         target: b"t",
+        tells_failed: true,
     };
     run_recipe(alloc, clearance, recipe, None, fake, slot, &spoken)
 }
 
 fn end(ran: Ran) {
-    let Ran { ended: _, spent } = ran;
+    let Ran {
+        ended: _,
+        spent,
+        failed: _,
+    } = ran;
     let _receipt = spent.give_up();
 }
 
