@@ -30,7 +30,6 @@ WAITING = {
 }
 WAITING_EXPORTS = {
     "bl_log": {"CriticalPath", "Ranked", "Span", "busy", "by_time", "critical_path", "lanes"},
-    "dmk_host": {"locks_above"},
     "jb_flags": {"Jobs", "jobs_of", "push_quoted"},
     "jb_marks": {"Known", "MemorySights", "Placed", "is_same"},
     "jb_recipe": {"Files"},

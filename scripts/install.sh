@@ -60,6 +60,9 @@ placed() {
     for name in man/*.[1-9]; do
         echo "share/man/man${name##*.}/${name#man/} 644 $name"
     done
+    for name in share/dmk/*; do
+        echo "$name 755 $name"
+    done
     echo "share/bash-completion/completions/dmk 644 completions/dmk.bash"
     echo "share/bash-completion/completions/dmk_tool 644 completions/dmk_tool.bash"
     echo "share/zsh/site-functions/_dmk 644 completions/_dmk"

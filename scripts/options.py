@@ -16,7 +16,7 @@ OPTION = r"(?<![\w-])(--?[A-Za-z][\w-]*)"
 STRING = r'"((?:[^"\\]|\\.)*)"'
 
 # Programs of tests, whose texts no user of dmk reads.
-TEST_CRATES = {"board_rows", "call_rows", "disk_rows", "record_rows", "row_files", "store_rows", "word_rows", "worker_tests"}
+TEST_CRATES = {"board_rows", "call_rows", "disk_rows", "record_rows", "row_files", "store_rows", "unit_tests", "word_rows", "worker_tests"}
 # No program stands on these yet.
 LATER_CRATES = set()
 

@@ -48,7 +48,7 @@ mkdir -p "$to"
 # whose changelog, in Debian's form, is changelog.gz.
 root=$room/root doc=$room/root/usr/share/doc/dmk
 DESTDIR=$root PROGRAMS=$programs bash scripts/install.sh /usr >"$room/said"
-rm -r "$root/usr/share/dmk"
+rm "$root/usr/share/dmk/installed"
 mv "$root/usr/share/zsh/site-functions" "$root/usr/share/zsh/vendor-completions"
 strip --remove-section=.comment --remove-section=.note "$root"/usr/bin/*
 gzip -9n "$root"/usr/share/man/man?/*
@@ -79,7 +79,8 @@ Architecture: $architecture
 Maintainer: $maintainer
 Installed-Size: $(du -sk --apparent-size --exclude=DEBIAN "$root" | cut -f1)
 ${depends:+$depends
-}Description: parallel make that never takes a half-made target for a finished one
+}Suggests: python3, strace
+Description: parallel make that never takes a half-made target for a finished one
  dmk makes targets by the rules of a makefile, several at once, and keeps in
  a state file what each recipe was and which of them ended. So a target is
  made again where its recipe has changed, and where a run was killed or the
@@ -97,7 +98,7 @@ name=dmk-$version-linux-$(uname -m) top=$room/tarball
 mkdir -p "$top/bin" "$top/scripts"
 cp "$root"/usr/bin/* "$top/bin/"
 cp scripts/install.sh "$top/scripts/"
-cp -r man completions "$top/"
+cp -r man completions share "$top/"
 find "$doc" -mindepth 1 -maxdepth 1 ! -name changelog.gz -exec cp -r -t "$top" {} +
 tar -C "$top" --sort=name --transform="s|^\.|$name|" --mtime="@$SOURCE_DATE_EPOCH" --owner=0 --group=0 --numeric-owner \
     --mode=go-w -cf - . | gzip -9n >"$to/$name.tar.gz"

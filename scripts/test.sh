@@ -50,6 +50,7 @@ if [ "$failed" -eq 0 ]; then
     run_part python3 scripts/read_beside_runs.py
     run_part bash scripts/kill_runs.sh
     run_part python3 scripts/random_histories.py
+    run_part python3 scripts/tools.py
     run_part python3 scripts/refused_growths.py
     run_part bash scripts/guarantees.sh
     run_part bash scripts/assumptions.sh
