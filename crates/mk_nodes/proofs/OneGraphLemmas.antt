@@ -14,7 +14,7 @@ use Rattle.mk_graph.proofs.CountedLemmas.{has-joined, HasCycle-wider, below_from
 use Rattle.mk_graph.proofs.CycleLemmas.{closed_row}
 use Rattle.mk_graph.proofs.PlanLemmas.{one_plan_after}
 use Rattle.mk_graph.proofs.RowLemmas.{list_all-has}
-use Rattle.mk_rule_lines.specs.Goals.{goals_of}
+use Rattle.mk_settings.specs.Goals.{goals_of}
 use Rattle.mk_nodes.specs.Graph.{IsGraph, AreEdges, AreHard, AreRequired, AreSoft, is_soft, required_in, counting_in, is_numbered}
 use Rattle.mk_nodes.specs.Node.{EachHasOneNumber}
 use Rattle.mk_nodes.specs.Prerequisites.{Inputs, prerequisites_of, hard_of, required_of}

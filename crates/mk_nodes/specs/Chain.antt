@@ -5,10 +5,10 @@ use Rattle.std.specs.List.{list_any, list_all}
 use Rattle.std.specs.Option.{option_or}
 use Rattle.mk_graph.specs.Edges.{has as has_number}
 use Rattle.mk_profile.specs.Profile.{is_wide}
-use Rattle.mk_reader.specs.Text.{is_empty}
-use Rattle.mk_rule_lines.specs.Source.{stem_of, candidates, source_of}
-use Rattle.mk_rule_lines.specs.declared.form.Form.{Form}
-use Rattle.mk_rule_lines.specs.declared.form.Source.{Source}
+use Rattle.mk_lines.specs.Text.{is_empty}
+use Rattle.mk_makefile.specs.Source.{stem_of, candidates, source_of}
+use Rattle.mk_makefile.specs.declared.form.Form.{Form}
+use Rattle.mk_makefile.specs.declared.form.Source.{Source}
 use Rattle.mk_rule_lines.specs.declared.rule_line.RuleLine.{RuleLine}
 use Rattle.mk_nodes.specs.declared.limits.TheConstants.{MAX_STEPS}
 

@@ -5,8 +5,8 @@ use Rattle.mk_graph.specs.Cycle.{HasCycle}
 use Rattle.mk_graph.specs.Counted.{counting, IsDropped}
 use Rattle.mk_graph.specs.Numbering.{IsNumbering, name_at}
 use Rattle.mk_rule_lines.specs.Rules.{suffixes_of, has}
-use Rattle.mk_rule_lines.specs.Taken.{AreTaken}
-use Rattle.mk_rule_lines.specs.Goals.{goals_of, settings_of}
+use Rattle.mk_makefile.specs.Taken.{AreTaken}
+use Rattle.mk_settings.specs.Goals.{goals_of, settings_of}
 use Rattle.mk_nodes.specs.Groups.{group_of}
 use Rattle.mk_nodes.specs.Node.{source_by, explicit_by, hidden_by}
 use Rattle.mk_nodes.specs.Prerequisites.{Inputs, implicit_source, made_from, source_name, distinct, explicit_names, recipe_of, hard_of, is_node, prerequisites_of, judged_of, is_made, required_of, soft_names}

@@ -1,7 +1,7 @@
 -- What the run of an implicit rule for a name makes beside it.
 use Rattle.std.specs.Prelude.{ℕ, ℤ, int_lt, List, [], ◌∷◌, map, Option, Some, None, if◌then◌else◌}
 use Rattle.std.specs.Option.{option_map_or}
-use Rattle.mk_rule_lines.specs.declared.form.Source.{Source}
+use Rattle.mk_makefile.specs.declared.form.Source.{Source}
 use Rattle.mk_nodes.specs.Prerequisites.{Inputs, implicit_source}
 use Rattle.mk_nodes.specs.declared.file_look.FileLook.{FileLook}
 use Rattle.mk_nodes.specs.declared.group.Group.{Group}

@@ -3,7 +3,7 @@ use Rattle.std.specs.Prelude.{◌≡◌, ℕ, ◌+◌, ◌-◌, Bool, false, not
 use Rattle.std.specs.List.{list_any}
 use Rattle.std.specs.Option.{option_map_or}
 use Rattle.mk_macros.specs.Words.{place_of}
-use Rattle.mk_rule_lines.specs.declared.form.Form.{Form}
+use Rattle.mk_makefile.specs.declared.form.Form.{Form}
 use Rattle.mk_nodes.specs.Chain.{makes_any}
 
 -- what all names of a pattern end with: what stands behind its first `%`, or the whole of one without

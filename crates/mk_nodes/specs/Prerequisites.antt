@@ -9,9 +9,9 @@ use Rattle.st_records.specs.declared.record.Phase.{Phase}
 use Rattle.st_records.specs.declared.record.Phase.TheVariants.{Begun, Done, Failed}
 use Rattle.mk_rule_lines.specs.Rules.{has, suffixes_of, recipe_places}
 use Rattle.mk_rule_lines.specs.Explicit.{explicit_targets, explicit_of, order_only_of as order_only_by_name, is_phony, is_default_at}
-use Rattle.mk_rule_lines.specs.Doubles.{first_double}
-use Rattle.mk_rule_lines.specs.Forms.{forms_of}
-use Rattle.mk_rule_lines.specs.declared.form.Source.{Source}
+use Rattle.mk_makefile.specs.Doubles.{first_double}
+use Rattle.mk_makefile.specs.Forms.{forms_of}
+use Rattle.mk_makefile.specs.declared.form.Source.{Source}
 use Rattle.mk_rule_lines.specs.declared.rule_line.RuleLine.{RuleLine}
 use Rattle.mk_short_names.specs.Short.{is_short}
 use Rattle.mk_nodes.specs.Chain.{any_wide, source_in, steps_of}
@@ -100,11 +100,15 @@ is_cut Begun = true
 is_cut Done = false
 is_cut (Failed status) = true
 
+-- that is what the state has of a name
+abbrev pub is_unfinished : Option Entry → Bool
+is_unfinished entry = option_map_or (λ e. is_cut e.phase) entry false
+
 -- a name that is left to `.DEFAULT` where no implicit rule makes it: no line makes it, and it has no file (POSIX make, .DEFAULT), or
 -- only one whose recipe wasn't run to its end, which would pass as a source else (own)
 abbrev pub is_left : Inputs → (name : List ℕ) → Bool
 is_left inputs name =
-    not (is_target inputs.lines name) && (is_none (inputs.looks name) || option_map_or (λ e. is_cut e.phase) (inputs.entries name) false)
+    not (is_target inputs.lines name) && (is_none (inputs.looks name) || is_unfinished (inputs.entries name))
 
 abbrev pub left_recipe : Inputs → (name : List ℕ) → Option ℕ
 left_recipe inputs name = if is_left inputs name then default_of inputs.lines else None

@@ -7,7 +7,7 @@ ghost use Rattle.mk_macros.specs.Ranks.{defined_by};
 ghost use Rattle.mk_profile.specs.Profile.{is_wide};
 ghost use Rattle.mk_rule_lines.specs.Explicit.{numbers_of};
 ghost use Rattle.mk_rule_lines.specs.Rules.{suffixes_of};
-ghost use Rattle.mk_rule_lines.specs.Table.{named_at};
+ghost use Rattle.mk_makefile.specs.Table.{named_at};
 ghost use Rattle.mk_nodes.specs.Node.{EachHasOneNumber, source_in, explicit_in, implied_in, hidden_in};
 
 use crate::group::Group;
@@ -19,7 +19,9 @@ use crate::stamp::Stamp;
 use byte_strings::{ByteString, ByteStrings};
 use mk_graph::{Edges, Names, counted_edges};
 use mk_macros::Macros;
-use mk_rule_lines::{RuleLine, Settings, TargetTable};
+use mk_makefile::TargetTable;
+use mk_rule_lines::RuleLine;
+use mk_settings::Settings;
 use st_state::State;
 use std::alloc::{AllocError, Global};
 

@@ -12,6 +12,7 @@ mod rare;
 mod removing;
 mod short_number;
 mod stamp;
+mod unfinished;
 
 pub use file_look::{FileLook, FileLooks};
 pub use graph::{Graph, Node};
@@ -21,3 +22,4 @@ pub use limits::MAX_STEPS;
 pub use rare::{Rare, RareParts};
 pub use short_number::ShortNumber;
 pub use stamp::Stamp;
+pub use unfinished::is_unfinished;

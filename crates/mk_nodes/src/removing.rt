@@ -1,11 +1,12 @@
 //! Which targets are removed where their recipes fail.
 ghost use Rattle.std.specs.Prelude.{◌≡◌, ◌&&◌, not, ℕ, List, is_some};
 ghost use Rattle.mk_rule_lines.specs.Explicit.{numbers_of, is_phony};
-ghost use Rattle.mk_rule_lines.specs.Marks.{has_mark};
-ghost use Rattle.mk_rule_lines.specs.Table.{named_at};
+ghost use Rattle.mk_settings.specs.Marks.{has_mark};
+ghost use Rattle.mk_makefile.specs.Table.{named_at};
 
 use crate::graph::Graph;
-use mk_rule_lines::{RuleLine, TargetTable, is_phony};
+use mk_makefile::TargetTable;
+use mk_rule_lines::{RuleLine, is_phony};
 
 /// The numbers of the lines that make a name.
 fn numbers_of<'t>(lines: &[RuleLine], targets: &'t TargetTable, name: &[u8]) -> &'t [usize]

@@ -18,11 +18,11 @@ use Rattle.mk_verdict.specs.declared.verdict.Reason.{Reason}
 use Rattle.mk_verdict.specs.declared.verdict.Target.{Target}
 use Rattle.mk_profile.specs.Profile.{is_wide}
 use Rattle.mk_profile.specs.declared.profile.Profile.{Profile}
-use Rattle.mk_reader.specs.Text.{is_empty}
+use Rattle.mk_lines.specs.Text.{is_empty}
 use Rattle.mk_rule_lines.specs.Explicit.{names_in, explicit_of as explicit_names}
 use Rattle.mk_rule_lines.specs.Rules.{suffixes_of, is_default_rule}
 use Rattle.mk_rule_lines.specs.declared.rule_line.RuleLine.{RuleLine}
-use Rattle.mk_nodes.specs.Prerequisites.{distinct, hidden_in, is_cut}
+use Rattle.mk_nodes.specs.Prerequisites.{distinct, hidden_in, is_unfinished}
 use Rattle.mk_nodes.specs.declared.graph.Graph.{Graph}
 use Rattle.mk_marks.specs.declared.noted.Noted.{Noted}
 use Rattle.mk_seen.specs.Marks.{look_of, with_marks, marks_of, hard_marked}
@@ -50,8 +50,8 @@ IsNewerBy marks m mark cut stamp target look =
 
 same_cut : (a b : Graph) → AreAlike a b → (n : ℕ) → was_cut a n ≡ was_cut b n
 same_cut a b same n =
-    ap (λ (d : Defined). is_wide d.language && option_map_or (λ (e : Entry). is_cut e.phase) (entry_of a n) false) same.defined
-    ∙ ap (λ (o : Option Entry). is_wide (language_of b) && option_map_or (λ (e : Entry). is_cut e.phase) o false) (same.entry n)
+    ap (λ (d : Defined). is_wide d.language && is_unfinished (entry_of a n)) same.defined
+    ∙ ap (λ (o : Option Entry). is_wide (language_of b) && is_unfinished o) (same.entry n)
 
 newer_in : (a b : Graph) → AreAlike a b → (marks : List Bool) (n : ℕ) (p : ℕ × Mark) → IsNewer a marks n p → IsNewer b marks n p
 newer_in a b same marks n (m, mark) is =

@@ -14,7 +14,7 @@ use Rattle.mk_marks.specs.declared.kept.Kept.{Kept}
 use Rattle.mk_marks.specs.declared.noted.Noted.{Noted}
 use Rattle.mk_recipe.proofs.RecordedLemmas.{recorded_by}
 use Rattle.mk_recipe.specs.Line.{Records}
-use Rattle.mk_rule_lines.specs.Doubles.{double_lines}
+use Rattle.mk_makefile.specs.Doubles.{double_lines}
 use Rattle.mk_rule_lines.specs.declared.rule_line.RuleLine.{RuleLine}
 use Rattle.mk_nodes.specs.declared.graph.Graph.{Graph}
 use Rattle.mk_verdict.proofs.MarkLemmas.{differs_decides}

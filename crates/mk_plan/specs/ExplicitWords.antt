@@ -9,7 +9,7 @@ use Rattle.mk_rule_lines.specs.Explicit.{names_in}
 use Rattle.mk_rule_lines.specs.Rules.{is_default_rule, suffixes_of}
 use Rattle.mk_rule_lines.specs.declared.rule_line.RuleLine.{RuleLine}
 use Rattle.mk_nodes.specs.declared.graph.Graph.{Graph}
-use Rattle.mk_reader.specs.Text.{is_empty}
+use Rattle.mk_lines.specs.Text.{is_empty}
 use Rattle.mk_seen.specs.Nodes.{node_at, source_of, stem_of}
 use Rattle.mk_plan.specs.Parts.{language_of, is_part}
 use Rattle.mk_plan.specs.Words.{implied_names}

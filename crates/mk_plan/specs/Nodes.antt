@@ -1,14 +1,13 @@
 -- Which prerequisites of a node are newer, and whether a node without a recipe was remade. What a graph has under a number says `mk_seen`.
-use Rattle.std.specs.Prelude.{◌≡◌, ◌⊎◌, ℕ, Bool, false, ◌&&◌, IsTrue, List, [], ◌∷◌, None}
+use Rattle.std.specs.Prelude.{◌≡◌, ◌⊎◌, ℕ, Bool, ◌&&◌, IsTrue, List, [], ◌∷◌, None}
 use Rattle.std.specs.List.{Any}
-use Rattle.std.specs.Option.{option_map_or}
 use Rattle.mk_graph.specs.Edges.{row}
 use Rattle.mk_graph.specs.Numbering.{name_at}
 use Rattle.mk_verdict.specs.Marks.{Differs}
 use Rattle.mk_verdict.specs.Verdict.{IsLater}
 use Rattle.mk_verdict.specs.declared.mark.Mark.{Mark}
 use Rattle.mk_profile.specs.Profile.{is_wide}
-use Rattle.mk_nodes.specs.Prerequisites.{is_cut}
+use Rattle.mk_nodes.specs.Prerequisites.{is_unfinished}
 use Rattle.mk_nodes.specs.declared.graph.Graph.{Graph}
 use Rattle.mk_seen.specs.Marks.{look_of}
 use Rattle.mk_seen.specs.Nodes.{stamp_of, made_of, entry_of}
@@ -18,7 +17,7 @@ pub use Rattle.mk_seen.specs.Nodes.{made_beside, explicit_of, is_marked}
 -- by the state the recipe of node n began and wasn't run to its end, which counts in the wide profile: nothing tells what went into its file
 -- (own)
 abbrev pub was_cut : Graph → (n : ℕ) → Bool
-was_cut graph n = is_wide (language_of graph) && option_map_or (λ e. is_cut e.phase) (entry_of graph n) false
+was_cut graph n = is_wide (language_of graph) && is_unfinished (entry_of graph n)
 
 -- the prerequisite m, of which the state has this mark, is newer than the target n, as `$?` has it: a file of the target is missing or was
 -- made by halves, or that of the prerequisite is later, or it was remade, or it isn't, or may not be, the file that the target was made of

@@ -5,7 +5,7 @@ use Rattle.mk_macros.specs.Ranks.{defined_by}
 use Rattle.mk_profile.specs.Profile.{is_wide}
 use Rattle.mk_profile.specs.declared.profile.Profile.{Profile}
 use Rattle.mk_reader.specs.declared.item.RecipeLine.{RecipeLine}
-use Rattle.mk_rule_lines.specs.Doubles.{double_lines}
+use Rattle.mk_makefile.specs.Doubles.{double_lines}
 use Rattle.mk_rule_lines.specs.Rules.{told_file}
 use Rattle.mk_rule_lines.specs.declared.rule_line.RuleLine.{RuleLine}
 use Rattle.mk_nodes.specs.declared.graph.Graph.{Graph}

@@ -2,7 +2,7 @@
 ghost use Rattle.std.specs.Prelude.{◌≡◌, ◌<◌, length, slice_get};
 ghost use Rattle.std.specs.Option.{option_copied};
 ghost use Rattle.mk_rule_lines.specs.Explicit.{names_in};
-ghost use Rattle.mk_reader.specs.Text.{is_empty};
+ghost use Rattle.mk_lines.specs.Text.{is_empty};
 ghost use Rattle.mk_plan.specs.Words.{implied_names};
 ghost use Rattle.mk_plan.specs.ExplicitWords.{first_of, once_of, is_implicit, first_prerequisite, without_suffix, stem_left, has_words, lacks_source, source_word, stem_word};
 

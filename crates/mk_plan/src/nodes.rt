@@ -1,37 +1,16 @@
 //! Which prerequisites of a node are newer, and whether a node without a recipe was remade.
-ghost use Rattle.std.specs.Prelude.{◌≡◌, ◌<◌, ◌||◌, false, length, map, IfOk};
+ghost use Rattle.std.specs.Prelude.{◌≡◌, ◌<◌, ◌||◌, length, map, IfOk};
 ghost use Rattle.std.specs.List.{list_any};
-ghost use Rattle.std.specs.Option.{option_copied, option_map_or};
 ghost use Rattle.mk_graph.specs.Edges.{row};
 ghost use Rattle.mk_graph.specs.Numbering.{name_at};
-ghost use Rattle.mk_nodes.specs.Prerequisites.{is_cut};
 ghost use Rattle.mk_seen.specs.Nodes.{is_marked};
 ghost use Rattle.mk_plan.specs.Nodes.{was_cut};
 ghost use Rattle.mk_plan.specs.Tests.{is_newer_than, newer_words, ends_remade};
 
-use mk_nodes::Graph;
+use mk_nodes::{Graph, is_unfinished};
 use mk_seen::{entry_of, is_later, is_marked, look_of, made_of, marks_of, name_of, stamp_of};
 use mk_verdict::Mark;
-use st_records::{PackedEntry, Phase};
 use std::alloc::{AllocError, Global};
-
-fn is_cut(phase: Phase) -> bool
-    ensures { result ≡ is_cut phase }
-{
-    match phase {
-        Phase::Begun | Phase::Failed(_) => true,
-        Phase::Done => false,
-    }
-}
-
-fn is_unfinished(entry: Option<&PackedEntry>) -> bool
-    ensures { result ≡ option_map_or (λ e. is_cut e.phase) (option_copied entry.entry) false }
-{
-    match entry {
-        Some(entry) => is_cut(entry.phase()),
-        None => false,
-    }
-}
 
 /// Whether the recipe of a node was cut off, so that in the wide profile nothing tells what went into its file.
 pub(crate) fn was_cut(graph: &Graph, node: usize) -> bool

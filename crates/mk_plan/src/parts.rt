@@ -2,13 +2,14 @@
 ghost use Rattle.std.specs.Prelude.{◌≡◌, ℕ, List, ◌∷◌, [], map, option_map, IfOk};
 ghost use Rattle.std.specs.Option.{option_copied};
 ghost use Rattle.mk_graph.specs.Numbering.{name_at};
-ghost use Rattle.mk_rule_lines.specs.Doubles.{double_lines};
+ghost use Rattle.mk_makefile.specs.Doubles.{double_lines};
 ghost use Rattle.mk_rule_lines.specs.Explicit.{numbers_of};
-ghost use Rattle.mk_rule_lines.specs.Table.{named_at};
+ghost use Rattle.mk_makefile.specs.Table.{named_at};
 ghost use Rattle.mk_plan.specs.Parts.{language_of, recipe_line, is_part, parts_of, file_of, line_place};
 
+use mk_makefile::{TargetTable, double_lines};
 use mk_nodes::Graph;
-use mk_rule_lines::{RuleLine, TargetTable, double_lines};
+use mk_rule_lines::RuleLine;
 use mk_seen::name_of;
 use std::alloc::{AllocError, Global};
 

@@ -4,7 +4,7 @@ ghost use Rattle.mk_graph.specs.Numbering.{name_at};
 ghost use Rattle.mk_macros.specs.Dynamic.{words_in};
 ghost use Rattle.mk_profile.specs.Profile.{is_wide};
 ghost use Rattle.mk_rule_lines.specs.Explicit.{numbers_of, explicit_of};
-ghost use Rattle.mk_rule_lines.specs.Table.{named_at};
+ghost use Rattle.mk_makefile.specs.Table.{named_at};
 ghost use Rattle.mk_plan.specs.ExplicitWords.{once_of};
 ghost use Rattle.mk_plan.specs.Parts.{language_of, is_part};
 ghost use Rattle.mk_plan.specs.Recipe.{AreRecipeWords};
@@ -12,8 +12,9 @@ ghost use Rattle.mk_plan.specs.Words.{in_wide, implied_names, written_of, order_
 
 use crate::nodes::newer_words;
 use byte_strings::ByteStrings;
+use mk_makefile::TargetTable;
 use mk_nodes::Graph;
-use mk_rule_lines::{RuleLine, TargetTable, explicit_of};
+use mk_rule_lines::{RuleLine, explicit_of};
 use mk_seen::name_of;
 use std::alloc::{AllocError, Global};
 

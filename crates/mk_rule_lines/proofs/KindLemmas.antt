@@ -12,7 +12,7 @@ use Rattle.std.proofs.lemmas.List.Elements.{All-nil, All-cons, All-head, All-tai
 use Rattle.std.proofs.lemmas.Map.Views.{any-filter_same}
 use Rattle.std.proofs.lemmas.Slice.Eq.{bytes_eq-Decides}
 use Rattle.mk_macros.specs.Words.{without_front}
-use Rattle.mk_reader.specs.Text.{is_empty}
+use Rattle.mk_lines.specs.Text.{is_empty}
 use Rattle.mk_reader.specs.declared.special.SpecialName.{SpecialName}
 use Rattle.mk_reader.specs.declared.special.SpecialName.TheVariants.{Default, Phony}
 use Rattle.mk_rule_lines.specs.Kinds.{IsRule, HasRecipe, HasSingleRecipe, IsPatternRule, IsPhonyList, IsDefaultRule, IsSuffixName, IsSuffixRule, Mentions, IsRuleFor, IsSuffixRuleFor}
@@ -137,6 +137,31 @@ module _ (suffixes : List (List ℕ)) where
       (Decides-and (may_be_suffix_rule l) (is_suffix_name suffixes name)
       (Decides-and (is_empty l.prerequisites) (not (lacks_single l)) (empty_decides l.prerequisites) (single_decides l))
       (suffix_name_decides name))
+
+-- ---- what stands behind a front
+
+module _ (p : List ℕ → Bool) (P : List ℕ → Type 0) (each : (rest : List ℕ) → Decides (p rest) (P rest)) (before : List ℕ) where
+  abbrev IsBehind : List ℕ → Type 0
+  IsBehind word = (rest : List ℕ) × (word ≡ before ++ rest) × P rest
+
+  behind_at : (word : List ℕ) (b : Bool) → bytes_eq (take (length before) word) before ≡ b → option_map_or p (without_front before word) false ≡ true → IsBehind word
+  behind_at word true e h =
+      let rest : List ℕ = drop (length before) word in
+      let found : p rest ≡ true = ap (λ (b : Bool). option_map_or p (cond b (Some rest) None) false) (sym e) ∙ h in
+      let front : take (length before) word ≡ before = (bytes_eq-Decides (take (length before) word) before).0 e in
+      (rest, sym (take-append-drop (length before) word) ∙ ap (λ xs. xs ++ rest) front, (each rest).0 found)
+  behind_at word false e h =
+      let rest : List ℕ = drop (length before) word in
+      let none : false ≡ true = ap (λ (b : Bool). option_map_or p (cond b (Some rest) None) false) (sym e) ∙ h in
+      absurd (both_ways false refl none)
+
+  -- what stands behind a front passes a test
+  pub behind_decides : (word : List ℕ) → Decides (option_map_or p (without_front before word) false) (IsBehind word)
+  behind_decides word = (
+    behind_at word (bytes_eq (take (length before) word) before) refl,
+    λ (rest, is, passes).
+        ap (λ w. option_map_or p (without_front before w) false) is ∙ ap (λ o. option_map_or p o false) (rest_is [] before rest) ∙ (each rest).1 passes,
+  )
 
 -- ---- the targets that are listed by name
 

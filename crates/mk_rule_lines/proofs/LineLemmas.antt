@@ -1,6 +1,7 @@
 -- The rule lines of items, one more item at a time.
 use Rattle.std.specs.Prelude.{Result, Ok, Err, IsErrAnd, IfErr}
-use Rattle.std.proofs.Common.{arith, length, ◌+◌, ◌≡◌, ℕ, inl, inr, List, [], ◌∷◌, ◌++◌, Option, Some, None, refl, sym, ap, subst}
+use Rattle.std.proofs.Math.Seq.{drop-cons}
+use Rattle.std.proofs.Common.{arith, add-one, get_or, drop, length, ◌+◌, ◌<◌, ◌≡◌, ◌∙◌, ℕ, suc, inl, inr, List, [], ◌∷◌, ◌++◌, Option, Some, None, refl, sym, ap, subst}
 use Rattle.byte_strings.specs.Blanks.{words}
 use Rattle.mk_macros.specs.declared.fault.MacroFault.{MacroFault}
 use Rattle.mk_macros.specs.declared.fault.MacroFault.TheVariants.{OutOfMemory, Loop, Unclosed, NestedReference, TooLong, Function}
@@ -121,3 +122,7 @@ one_fewer old new x before after is less count = let e : length old ≡ length (
 pub handed_on : {T : Type 0} (result : Result T RuleFault) (P : RuleFault → Type 0) (f : RuleFault) → IsErrAnd result (λ g. g ≡ f) → P f → IfErr result P
 handed_on (Ok x) P f is p = tt
 handed_on (Err g) P f is p = subst P (sym is) p
+
+-- the lines from one on
+pub from_line : (lines : List RuleLine) (k : ℕ) (l : RuleLine) → k < length lines → l ≡ get_or lines k l → drop k lines ≡ l ∷ drop (k + 1) lines
+from_line lines k l within is = drop-cons lines k l within ∙ ap (λ m. m ∷ drop (suc k) lines) (sym is) ∙ rw add-one refl

@@ -7,7 +7,7 @@ use Rattle.std.proofs.lemmas.Bool.Decides.{Decides-and}
 use Rattle.std.proofs.lemmas.List.{append-nil, append_assoc}
 use Rattle.std.proofs.lemmas.List.Elements.{All-nil, All-cons, All-head, All-tail}
 use Rattle.mk_macros.proofs.SpelledLemmas.{either}
-use Rattle.mk_reader.specs.Text.{is_empty}
+use Rattle.mk_lines.specs.Text.{is_empty}
 use Rattle.mk_reader.specs.declared.special.SpecialName.{SpecialName}
 use Rattle.mk_reader.specs.declared.special.SpecialName.TheVariants.{Suffixes}
 use Rattle.mk_rule_lines.specs.Rules.{has, added, with_names, is_suffix_list, suffixes_after, suffixes_of}

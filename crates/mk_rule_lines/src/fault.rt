@@ -1,4 +1,5 @@
 //! Why a makefile's rules make no graph.
+use crate::pool_faults::PoolFault;
 use bstr::ByteSlice;
 use byte_strings::{ByteString, ByteStrings};
 use mk_macros::MacroFault;
@@ -146,6 +147,9 @@ pub enum RuleFault {
     /// The number is that of the rule line.
     #[error("not supported: {0} (line {1})")]
     Unsupported(Unsupported, usize),
+    /// A line of `.POOL`.
+    #[error("{0}")]
+    Pool(PoolFault),
     /// The tree can't tell whether the name has a file.
     #[error("cannot look at {0}")]
     Tree(ByteString),

@@ -1,41 +1,27 @@
-//! The rule lines of a makefile: what they say of each name, which implicit rules and goals they give, what they set.
+//! The rule lines of a makefile: their texts expanded and cut into words, of which kind each is, and what they say of a name.
 #![tactic(auto)]
 
-mod counting;
-mod doubles;
 mod explicit;
 mod fault;
-mod folder;
-mod form;
-mod forms;
-mod goals;
 mod laws;
 mod line_words;
 mod lines;
-mod makefile;
-mod marked;
-mod order;
+mod patterns;
+mod pool_faults;
+mod pool_line;
 mod rule_line;
-mod settings;
 mod suffixes;
-mod supported;
-mod table;
 
-pub use doubles::{double_lines, first_double};
 pub use explicit::{
     explicit_of, is_bar, is_default_at, is_phony, is_wait, may_have_bar, names_in, order_only_of,
     words_by,
 };
-pub use fault::{CycleNames, RuleFault, TextFault, TextPlace, Unmade};
-pub use form::{Form, Source};
-pub use goals::goals_of;
-pub use laws::{
-    goals_are_named_or_first, implicit_rules_in_order, longer_stems_by_less_beside_them,
-    marks_are_of_the_lines, rules_by_name, suffixes_are_the_last_list,
-};
+pub use fault::{CycleNames, RuleFault, TextFault, TextPlace, Unmade, Unsupported};
+pub use laws::suffixes_are_the_last_list;
 pub use line_words::LineWords;
 pub use lines::rule_lines;
-pub use makefile::Makefile;
-pub use rule_line::{RuleLine, is_default_rule};
-pub use settings::Settings;
-pub use table::TargetTable;
+pub use patterns::{before_percent, behind_percent, has_slash, parted, percent};
+pub use pool_faults::{PoolCause, PoolFault, check_pools};
+pub use pool_line::{add_members, is_pool, most_said};
+pub use rule_line::{RuleLine, has, has_percent, is_default_rule};
+pub use suffixes::suffixes_of;

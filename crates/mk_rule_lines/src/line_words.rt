@@ -78,7 +78,7 @@ impl LineWords {
     }
 
     /// How many bytes the text has.
-    pub(crate) fn text_len(&self) -> usize {
+    pub fn text_len(&self) -> usize {
         self.text.as_slice().len()
     }
 
@@ -132,7 +132,7 @@ impl LineWords {
     }
 
     /// Whether one of the words has a `+`, a `(` or a `%`, told in the same way. Only where it is so something of them may be refused.
-    pub(crate) fn may_have_sign(&self) -> bool
+    pub fn may_have_sign(&self) -> bool
         ensures plus { result ≡ false → list_any (list_any (λ b. b == 43)) self.now ≡ false }
         ensures bracket { result ≡ false → list_any (list_any (λ b. b == 40)) self.now ≡ false }
         ensures percent { result ≡ false → list_any (list_any (λ b. b == 37)) self.now ≡ false }

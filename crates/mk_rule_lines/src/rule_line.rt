@@ -1,8 +1,8 @@
 //! One rule line of a makefile, with its texts expanded and cut into words.
 ghost use Rattle.std.specs.Prelude.{◌≡◌, ◌&&◌, ◌||◌, not, option_copied, IfOk};
 ghost use Rattle.std.specs.List.{list_any};
-ghost use Rattle.mk_reader.specs.Text.{is_empty};
-ghost use Rattle.mk_rule_lines.specs.Order.{is_built_in};
+ghost use Rattle.mk_lines.specs.Text.{is_empty};
+ghost use Rattle.mk_rule_lines.specs.Rules.{is_built_in};
 ghost use Rattle.mk_rule_lines.specs.Rules.{told_file};
 ghost use Rattle.mk_rule_lines.specs.Rules.{has, has_percent, is_rule, is_pattern_rule, is_phony_list, is_default_rule, makes_targets, is_suffix_list, joins, is_suffix_name, lacks_single, is_double_recipe, is_always, may_be_suffix_rule, is_suffix_target, comes_out, targets_by};
 
@@ -48,13 +48,14 @@ impl Drop for RuleLine {
 }
 
 /// Whether the name is one of these.
-pub(crate) fn has(names: &ByteStrings, name: &[u8]) -> bool
+pub fn has(names: &ByteStrings, name: &[u8]) -> bool
     ensures { result ≡ has name.now names.now }
 {
     names.iter().any(|n| name == n)
 }
 
-pub(crate) fn has_percent(name: &[u8]) -> bool
+/// Whether a name has a `%`.
+pub fn has_percent(name: &[u8]) -> bool
     ensures { result ≡ has_percent name.now }
 {
     name.iter().any(|b| *b == b'%')
@@ -125,7 +126,7 @@ impl RuleLine {
     }
 
     /// Whether it is a line of the rules that are built in.
-    pub(crate) fn is_built_in(&self) -> bool
+    pub fn is_built_in(&self) -> bool
         ensures { result ≡ is_built_in self.now }
     {
         self.profile.is_wide() && self.file.as_slice() == BUILT_IN
@@ -166,7 +167,8 @@ impl RuleLine {
         self.is_double || !self.has_recipe()
     }
 
-    pub(crate) fn has_single_recipe(&self) -> bool
+    /// Whether it has a recipe of which a name has just one.
+    pub fn has_single_recipe(&self) -> bool
         ensures { result ≡ not (lacks_single self.now) }
     {
         !self.lacks_single()
@@ -186,8 +188,9 @@ impl RuleLine {
         self.is_double_recipe() && self.prerequisites.is_empty()
     }
 
+    /// Whether its targets may be suffix rules: it has no prerequisites, and such a recipe.
     #[inline]
-    pub(crate) fn may_be_suffix_rule(&self) -> bool
+    pub fn may_be_suffix_rule(&self) -> bool
         ensures { result ≡ may_be_suffix_rule self.now }
     {
         self.prerequisites.is_empty() && self.has_single_recipe()
@@ -203,14 +206,14 @@ impl RuleLine {
 
     /// Whether it may have targets that are suffix rules, or others.
     #[inline]
-    pub(crate) fn may_have_targets(&self, suffix_rules: bool) -> bool
+    pub fn may_have_targets(&self, suffix_rules: bool) -> bool
         ensures { result ≡ ((not suffix_rules || may_be_suffix_rule self.now) && makes_targets self.now) }
     {
         (!suffix_rules || self.may_be_suffix_rule()) && self.makes_targets()
     }
 
     /// Whether a target is one of this choice.
-    pub(crate) fn is_chosen(&self, suffixes: &ByteStrings, suffix_rules: bool, name: &[u8]) -> bool
+    pub fn is_chosen(&self, suffixes: &ByteStrings, suffix_rules: bool, name: &[u8]) -> bool
         ensures { result ≡ comes_out suffix_rules (is_suffix_target suffixes.now self.now name.now) }
     {
         comes_out(suffix_rules, self.is_suffix_target(suffixes, name))

@@ -61,7 +61,7 @@ fn behind_line(
 }
 
 /// The suffixes that count for all lines: those of the list as the last line leaves it.
-pub(crate) fn suffixes_of(alloc: Global, lines: &[RuleLine]) -> Result<ByteStrings, AllocError>
+pub fn suffixes_of(alloc: Global, lines: &[RuleLine]) -> Result<ByteStrings, AllocError>
     ensures { IfOk result (λ suffixes. suffixes ≡ suffixes_of lines.now) }
 {
     let mut suffixes = ByteStrings::empty(alloc);

@@ -11,13 +11,13 @@ use Rattle.mk_graph.specs.Plan.{IsPlan}
 use Rattle.mk_graph.specs.declared.numbering.Numbered.{Numbered}
 use Rattle.mk_rules.specs.Assembly.{IsPutTogether}
 use Rattle.mk_rules.specs.Found.{AreFound, IsUnmadeFault, IsGraphlessFault}
-use Rattle.mk_rule_lines.specs.Goals.{goals_of, settings_of}
+use Rattle.mk_settings.specs.Goals.{goals_of, settings_of}
 use Rattle.mk_nodes.specs.Graph.{IsGraph, IsNode, AreUnmade, AreHard, AreRequired, AreSoft, required_in, counting_in}
 use Rattle.mk_rules.specs.Nodes.{IsNamedOf}
 use Rattle.mk_edges.specs.Ordering.{IsCycleFault}
 use Rattle.mk_nodes.specs.Prerequisites.{Inputs, prerequisites_of, is_made}
 use Rattle.mk_edges.specs.Rows.{EachRow, IsHardRow, IsSoftRow}
-use Rattle.mk_rule_lines.specs.Taken.{AreTaken}
+use Rattle.mk_makefile.specs.Taken.{AreTaken}
 use Rattle.mk_rule_lines.specs.declared.fault.RuleFault.{RuleFault}
 use Rattle.mk_rule_lines.specs.declared.fault.RuleFault.TheVariants as fault
 use Rattle.mk_nodes.specs.declared.graph.Graph.{Graph}

@@ -6,13 +6,13 @@ use Rattle.mk_reader.specs.declared.item.Item.{Item}
 use Rattle.st_records.specs.declared.record.Entry.{Entry}
 use Rattle.mk_rules.specs.Faults.{IsGraphFault, IsRuleFault, AreInputs}
 use Rattle.mk_rules.specs.Found.{AreFound, IsGraphlessFault}
-use Rattle.mk_rule_lines.specs.Goals.{goals_of}
+use Rattle.mk_settings.specs.Goals.{goals_of}
 use Rattle.mk_nodes.specs.Graph.{IsGraph}
 use Rattle.mk_macros.specs.Ranks.{Defined}
-use Rattle.mk_rule_lines.specs.InForce.{AreLinesInForce}
+use Rattle.mk_makefile.specs.InForce.{AreLinesInForce}
 use Rattle.mk_rule_lines.specs.Lines.{IsLinesFault}
 use Rattle.mk_nodes.specs.Prerequisites.{Inputs, inputs_of}
-use Rattle.mk_rule_lines.specs.Taken.{IsTakingFault}
+use Rattle.mk_makefile.specs.Taken.{IsTakingFault}
 use Rattle.mk_rule_lines.specs.declared.fault.RuleFault.{RuleFault}
 use Rattle.mk_rule_lines.specs.declared.fault.RuleFault.TheVariants as fault
 use Rattle.mk_nodes.specs.declared.graph.Graph.{Graph}
@@ -29,6 +29,7 @@ module _ (inputs : Inputs) (refuses : List ℕ → Type 0) (named : List (List �
   taking (fault.TwoRecipes name line) meets = meets
   taking (fault.BothKinds name line) meets = meets
   taking (fault.Unsupported what line) meets = meets
+  taking (fault.Pool told) meets = meets
   taking _ meets = absurd meets
 
   graphless : (f : RuleFault) → IsGraphlessFault inputs named f → IsGraphFault inputs refuses named limit f

@@ -5,13 +5,13 @@ use Rattle.mk_reader.specs.declared.item.Item.{Item}
 use Rattle.st_records.specs.declared.record.Entry.{Entry}
 use Rattle.mk_rules.specs.Faults.{IsGraphFault, IsRuleFault, AreInputs}
 use Rattle.mk_rules.specs.Found.{IsFindingFault}
-use Rattle.mk_rule_lines.specs.Goals.{goals_of, IsGoalFault}
+use Rattle.mk_settings.specs.Goals.{goals_of, IsGoalFault}
 use Rattle.mk_macros.specs.Ranks.{Defined}
 use Rattle.mk_rule_lines.specs.Lines.{IsLinesFault}
 use Rattle.mk_nodes.specs.Prerequisites.{Inputs, prerequisites_of}
 use Rattle.mk_rule_lines.specs.Rules.{targets_by, suffixes_of}
-use Rattle.mk_rule_lines.specs.Supported.{IsRefusal}
-use Rattle.mk_rule_lines.specs.Table.{IsTableFault}
+use Rattle.mk_makefile.specs.Supported.{IsRefusal}
+use Rattle.mk_makefile.specs.Table.{IsTableFault}
 use Rattle.mk_rule_lines.specs.declared.fault.RuleFault.{RuleFault}
 use Rattle.mk_rule_lines.specs.declared.fault.RuleFault.TheVariants as fault
 use Rattle.mk_nodes.specs.declared.file_look.FileLook.{FileLook}
@@ -31,6 +31,7 @@ module _ (inputs : Inputs) (refuses : List ℕ → Type 0) (named : List (List �
   refused_line fault.TooMany meets = absurd meets
   refused_line (fault.Macro f) meets = absurd meets
   refused_line (fault.Tree name) meets = absurd meets
+  refused_line (fault.Pool told) meets = absurd meets
 
   -- a name with two recipes
   pub two_recipes : (suffix_rules : Bool) (f : RuleFault) → IsTableFault (targets_by suffix_rules (suffixes_of inputs.lines)) inputs.lines f →

@@ -17,10 +17,10 @@ use Rattle.mk_sources.specs.Asked.{IsLookUpFault}
 use Rattle.mk_nodes.specs.Prerequisites.{Inputs, distinct, implicit_source, hard_of, hidden_in, hidden_of, is_node, prerequisites_of, judged_of, order_only_of}
 use Rattle.mk_rule_lines.specs.declared.fault.RuleFault.{RuleFault}
 use Rattle.mk_rule_lines.specs.declared.fault.RuleFault.TheVariants as fault
-use Rattle.mk_rule_lines.specs.declared.form.Form.{Form}
+use Rattle.mk_makefile.specs.declared.form.Form.{Form}
 use Rattle.mk_nodes.specs.declared.graph.Node.{Node}
 use Rattle.mk_nodes.specs.declared.rare.Rare.{Rare}
-use Rattle.mk_rule_lines.specs.declared.table.TargetTable.{TargetTable}
+use Rattle.mk_makefile.specs.declared.table.TargetTable.{TargetTable}
 use Rattle.mk_nodes.specs.declared.file_look.FileLook.{FileLook}
 
 -- what follows of a call that gave an answer

@@ -6,11 +6,11 @@ use Rattle.mk_graph.specs.Numbering.{IsNumbering, AreDescribed, has_name}
 use Rattle.mk_graph.specs.NumberingFault.{IsNumberingFault}
 use Rattle.mk_graph.specs.declared.numbering.NumberingFault.{NumberingFault}
 use Rattle.mk_graph.specs.declared.numbering.NumberingFault.TheVariants.{TooMany, Source}
-use Rattle.mk_reader.specs.Text.{is_empty}
+use Rattle.mk_lines.specs.Text.{is_empty}
 use Rattle.st_records.specs.declared.record.Entry.{Entry}
 use Rattle.mk_rule_lines.specs.Explicit.{explicit_targets, is_phony}
 use Rattle.mk_rules.specs.Faults.{IsReachedFrom, IsLedToFrom, IsSearchedFrom, IsAskedOf}
-use Rattle.mk_rule_lines.specs.Forms.{forms_of}
+use Rattle.mk_makefile.specs.Forms.{forms_of}
 use Rattle.mk_rules.specs.Found.{IsFindingFault}
 use Rattle.mk_sources.specs.Asked.{IsAsked, IsLookUpFault}
 use Rattle.mk_nodes.specs.Prerequisites.{inputs_of, own_recipes, is_target, prerequisites_of}
@@ -18,14 +18,14 @@ use Rattle.mk_rule_lines.specs.Rules.{has, places, targets_by, suffixes_of}
 use Rattle.mk_nodes.specs.Chain.{steps_of}
 use Rattle.mk_sources.specs.Search.{IsLedTo, IsSearched, IsChainedTo}
 use Rattle.mk_sources.specs.Source.{IsReached}
-use Rattle.mk_rule_lines.specs.Source.{source_of}
-use Rattle.mk_rule_lines.specs.Table as table
+use Rattle.mk_makefile.specs.Source.{source_of}
+use Rattle.mk_makefile.specs.Table as table
 use Rattle.mk_sources.specs.There as sources
 use Rattle.mk_rule_lines.specs.declared.fault.RuleFault.{RuleFault}
 use Rattle.mk_rule_lines.specs.declared.fault.RuleFault.TheVariants as fault
-use Rattle.mk_rule_lines.specs.declared.form.Form.{Form}
+use Rattle.mk_makefile.specs.declared.form.Form.{Form}
 use Rattle.mk_rule_lines.specs.declared.rule_line.RuleLine.{RuleLine}
-use Rattle.mk_rule_lines.specs.declared.table.TargetTable.{TargetTable}
+use Rattle.mk_makefile.specs.declared.table.TargetTable.{TargetTable}
 use Rattle.mk_sources.proofs.LookupLemmas.{same_there}
 use Rattle.mk_sources.proofs.RuleLemmas.{any_place}
 use Rattle.mk_nodes.specs.declared.file_look.FileLook.{FileLook}

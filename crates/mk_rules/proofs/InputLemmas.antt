@@ -11,8 +11,8 @@ use Rattle.st_records.specs.declared.record.Entry.{Entry}
 use Rattle.mk_macros.specs.Ranks.{Defined, rule_meanings}
 use Rattle.mk_profile.specs.declared.profile.Profile.{Profile}
 use Rattle.mk_profile.specs.declared.profile.Profile.TheVariants.{Strict, Posix}
-use Rattle.mk_rule_lines.specs.InForce.{AreInForce, AreLinesInForce}
-use Rattle.mk_rule_lines.proofs.InForceLemmas.{left_once}
+use Rattle.mk_makefile.specs.InForce.{AreInForce, AreLinesInForce}
+use Rattle.mk_makefile.proofs.InForceLemmas.{left_once}
 use Rattle.mk_rule_lines.specs.Lines.{AreWordsOf, targets_text, ArePrerequisites, IsRuleLine, AreRuleLines, no_items, behind_definition, a_rule, a_special}
 use Rattle.mk_rule_lines.specs.Rules.{suffixes_of}
 use Rattle.mk_rule_lines.specs.declared.rule_line.RuleLine.{RuleLine}

@@ -6,11 +6,11 @@ use Rattle.mk_graph.specs.Numbering.{name_at, has_name}
 use Rattle.mk_graph.proofs.RowLemmas.{has-push}
 use Rattle.mk_edges.specs.Known.{IsKnown}
 use Rattle.mk_nodes.specs.Prerequisites.{Inputs, default_of, is_target, implicit_source, is_made}
-use Rattle.mk_rule_lines.specs.Table.{is_named, named_at}
-use Rattle.mk_rule_lines.specs.declared.form.Source.{Source}
+use Rattle.mk_makefile.specs.Table.{is_named, named_at}
+use Rattle.mk_makefile.specs.declared.form.Source.{Source}
 use Rattle.mk_nodes.specs.declared.graph.Node.{Node}
 use Rattle.mk_rule_lines.specs.declared.rule_line.RuleLine.{RuleLine}
-use Rattle.mk_rule_lines.specs.declared.table.TargetTable.{TargetTable}
+use Rattle.mk_makefile.specs.declared.table.TargetTable.{TargetTable}
 use Rattle.std.proofs.lemmas.Slice.Eq.{bytes_eq-Decides}
 
 some_stem : (o : Option Source) → is_some (option_map (λ (s : Source). s.stem) o) ≡ is_some o

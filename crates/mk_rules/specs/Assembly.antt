@@ -1,6 +1,6 @@
 -- A graph and the parts that it is put together from.
 use Rattle.std.specs.Prelude.{◌≡◌, List}
-use Rattle.mk_rule_lines.specs.Goals.{settings_of}
+use Rattle.mk_settings.specs.Goals.{settings_of}
 use Rattle.st_state.specs.State.{StateMap}
 use Rattle.mk_nodes.specs.declared.graph.Graph.{Graph}
 use Rattle.mk_rules.specs.declared.nodes.Named.{Named}

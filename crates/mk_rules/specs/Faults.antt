@@ -5,27 +5,28 @@ use Rattle.mk_graph.specs.Cycle.{IsCycle}
 use Rattle.mk_graph.specs.Numbering.{IsNumbering, name_at, has_name}
 use Rattle.mk_reader.specs.declared.item.Item.{Item}
 use Rattle.st_records.specs.declared.record.Entry.{Entry}
-use Rattle.mk_rule_lines.specs.Doubles.{HasBothKinds}
+use Rattle.mk_makefile.specs.Doubles.{HasBothKinds}
 use Rattle.mk_rule_lines.specs.Explicit.{is_phony}
-use Rattle.mk_rule_lines.specs.Forms.{forms_of}
-use Rattle.mk_rule_lines.specs.Goals.{goals_of}
+use Rattle.mk_makefile.specs.Forms.{forms_of}
+use Rattle.mk_settings.specs.Goals.{goals_of}
 use Rattle.mk_nodes.specs.Chain.{steps_of}
 use Rattle.mk_nodes.specs.Graph.{AreRequired}
 use Rattle.mk_sources.specs.Search.{IsChainedTo}
 use Rattle.mk_nodes.specs.Groups.{others_in}
 use Rattle.mk_macros.specs.Ranks.{Defined}
-use Rattle.mk_rule_lines.specs.InForce.{AreLinesInForce}
+use Rattle.mk_makefile.specs.InForce.{AreLinesInForce}
 use Rattle.mk_rule_lines.specs.Lines.{IsLinesFault}
 use Rattle.mk_nodes.specs.Prerequisites.{Inputs, IsTextAmong, seen_looks, own_recipes, found_source, implicit_source, is_target, is_there, hidden_of, prerequisites_of, is_made}
+use Rattle.mk_rule_lines.specs.Pools.{HasPoolFault}
 use Rattle.mk_rule_lines.specs.Rules.{has, targets_by, suffixes_of}
-use Rattle.mk_rule_lines.specs.Source.{stem_of, source_at, source_of}
-use Rattle.mk_rule_lines.specs.Supported.{HasRefusedLine}
-use Rattle.mk_rule_lines.specs.Table.{HasTwoRecipes}
+use Rattle.mk_makefile.specs.Source.{stem_of, source_at, source_of}
+use Rattle.mk_makefile.specs.Supported.{HasRefusedLine}
+use Rattle.mk_makefile.specs.Table.{HasTwoRecipes}
 use Rattle.mk_rule_lines.specs.declared.fault.Unmade.{Unmade}
 use Rattle.mk_rule_lines.specs.declared.fault.RuleFault.{RuleFault}
 use Rattle.mk_rule_lines.specs.declared.fault.RuleFault.TheVariants as fault
-use Rattle.mk_rule_lines.specs.declared.form.Form.{Form}
-use Rattle.mk_rule_lines.specs.declared.form.Source.{Source}
+use Rattle.mk_makefile.specs.declared.form.Form.{Form}
+use Rattle.mk_makefile.specs.declared.form.Source.{Source}
 use Rattle.mk_rule_lines.specs.declared.rule_line.RuleLine.{RuleLine}
 use Rattle.mk_nodes.specs.declared.file_look.FileLook.{FileLook}
 
@@ -131,6 +132,7 @@ IsGraphFault inputs refuses named limit (fault.Cycle cycle) = HasNamedCycle inpu
 IsGraphFault inputs refuses named limit fault.TooMany = (names : List (List ℕ)) → AreNames inputs named names → limit < length names
 IsGraphFault inputs refuses named limit (fault.Macro f) = ⊥
 IsGraphFault inputs refuses named limit (fault.Unsupported what line) = HasRefusedLine inputs.lines what line
+IsGraphFault inputs refuses named limit (fault.Pool told) = HasPoolFault inputs.lines told
 IsGraphFault inputs refuses named limit (fault.Tree name) = IsLookedAt inputs named name × refuses name
 
 -- the inputs that a makefile, looks at files and a state give

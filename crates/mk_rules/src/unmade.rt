@@ -4,7 +4,7 @@ ghost use Rattle.mk_graph.specs.Edges.{has};
 ghost use Rattle.mk_graph.specs.Numbering.{AreDescribed, name_at};
 ghost use Rattle.mk_rule_lines.specs.Explicit.{explicit_targets};
 ghost use Rattle.mk_rule_lines.specs.Rules.{recipe_places};
-ghost use Rattle.mk_rule_lines.specs.Table.{is_named, named_at};
+ghost use Rattle.mk_makefile.specs.Table.{is_named, named_at};
 ghost use Rattle.mk_rules.specs.Found.{HasItInItsRow, IsUnmadeFault};
 ghost use Rattle.mk_nodes.specs.Graph.{AreUnmade};
 ghost use Rattle.mk_edges.specs.Known.{IsKnown};
@@ -12,9 +12,10 @@ ghost use Rattle.mk_nodes.specs.Prerequisites.{Inputs, is_target};
 
 use byte_strings::ByteString;
 use mk_graph::Numbered;
+use mk_makefile::TargetTable;
 use mk_nodes::Node;
 use mk_profile::Profile;
-use mk_rule_lines::{RuleFault, RuleLine, TargetTable, Unmade};
+use mk_rule_lines::{RuleFault, RuleLine, Unmade};
 use mk_sources::default_of;
 use std::alloc::{AllocError, Global};
 

@@ -10,9 +10,9 @@ use Rattle.mk_sources.specs.Asked.{IsLookUpFault, IsFoundFault, IsImplicitFault,
 use Rattle.mk_sources.specs.Search.{IsSearchFault}
 use Rattle.mk_rule_lines.specs.declared.fault.RuleFault.{RuleFault}
 use Rattle.mk_rule_lines.specs.declared.fault.RuleFault.TheVariants as fault
-use Rattle.mk_rule_lines.specs.declared.form.Form.{Form}
-use Rattle.mk_rule_lines.specs.declared.form.Source.{Source}
-use Rattle.mk_rule_lines.specs.declared.table.TargetTable.{TargetTable}
+use Rattle.mk_makefile.specs.declared.form.Form.{Form}
+use Rattle.mk_makefile.specs.declared.form.Source.{Source}
+use Rattle.mk_makefile.specs.declared.table.TargetTable.{TargetTable}
 use Rattle.mk_nodes.specs.declared.file_look.FileLook.{FileLook}
 
 no_value : false ≡ true → ⊥

@@ -5,9 +5,9 @@ use Rattle.std.specs.List.{list_any, list_all}
 use Rattle.std.specs.Option.{option_map_or, option_or}
 use Rattle.std.proofs.lemmas.Bool.{and_parts, and_from, or_left, or_right, or_cases}
 use Rattle.mk_graph.specs.Edges.{has as has_number}
-use Rattle.mk_rule_lines.specs.Source.{stem_of, source_at, candidates, source_of}
-use Rattle.mk_rule_lines.specs.declared.form.Form.{Form}
-use Rattle.mk_rule_lines.specs.declared.form.Source.{Source}
+use Rattle.mk_makefile.specs.Source.{stem_of, source_at, candidates, source_of}
+use Rattle.mk_makefile.specs.declared.form.Form.{Form}
+use Rattle.mk_makefile.specs.declared.form.Source.{Source}
 use Rattle.mk_nodes.specs.Chain.{makes_any, has_a_type, is_usable, usable, first_that, can_be, chained, source_in}
 use Rattle.mk_sources.proofs.ChainLemmas.{there_can}
 

@@ -7,12 +7,12 @@ use Rattle.std.proofs.lemmas.Bool.{or_left, cases_lt}
 use Rattle.std.proofs.lemmas.List.{take-append-drop}
 use Rattle.std.proofs.lemmas.List.Elements.{filter-append}
 use Rattle.std.proofs.lemmas.List.Folds.{find-append}
-use Rattle.mk_rule_lines.specs.Source.{stem_of, source_at, candidates, source_of}
-use Rattle.mk_rule_lines.specs.Table.{is_named, named_at}
+use Rattle.mk_makefile.specs.Source.{stem_of, source_at, candidates, source_of}
+use Rattle.mk_makefile.specs.Table.{is_named, named_at}
 use Rattle.mk_sources.specs.There.{is_there}
-use Rattle.mk_rule_lines.specs.declared.form.Form.{Form}
-use Rattle.mk_rule_lines.specs.declared.form.Source.{Source}
-use Rattle.mk_rule_lines.specs.declared.table.TargetTable.{TargetTable}
+use Rattle.mk_makefile.specs.declared.form.Form.{Form}
+use Rattle.mk_makefile.specs.declared.form.Source.{Source}
+use Rattle.mk_makefile.specs.declared.table.TargetTable.{TargetTable}
 use Rattle.mk_rule_lines.specs.declared.fault.RuleFault.{RuleFault}
 use Rattle.mk_rule_lines.specs.declared.fault.RuleFault.TheVariants as fault
 use Rattle.mk_nodes.specs.Chain.{is_usable, usable, first_that, can_be, chained, source_in}

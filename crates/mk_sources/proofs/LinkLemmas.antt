@@ -9,9 +9,10 @@ use Rattle.std.proofs.lemmas.List.Folds.{find-append}
 use Rattle.std.proofs.lemmas.Option.{slice_get-map, slice_get_within, slice_get-get_or}
 use Rattle.std.proofs.lemmas.Slice.Eq.{bytes_eq-Decides}
 use Rattle.mk_macros.specs.Words.{place_of, last_slash, behind_slash, file_of, without_front, without_end}
-use Rattle.mk_rule_lines.specs.Source.{folder_of, seen_by, stem_by, stem_of, with_stem, source_at, candidates, source_of}
-use Rattle.mk_rule_lines.specs.declared.form.Form.{Form}
-use Rattle.mk_rule_lines.specs.declared.form.Source.{Source}
+use Rattle.mk_rule_lines.specs.Patterns.{folder_of}
+use Rattle.mk_makefile.specs.Source.{seen_by, stem_by, stem_of, with_stem, source_at, candidates, source_of}
+use Rattle.mk_makefile.specs.declared.form.Form.{Form}
+use Rattle.mk_makefile.specs.declared.form.Source.{Source}
 use Rattle.mk_nodes.specs.Chain.{makes_any, is_usable, usable, first_that, can_be}
 use Rattle.mk_nodes.specs.Links.{end_of, ends_with, end_alike, may_make, leads_on, AreLinks}
 use Rattle.mk_sources.proofs.ChainLemmas.{unfit_more, passed_more}

@@ -4,18 +4,18 @@ use Rattle.std.specs.Prelude.{◌&&◌, ◌||◌, is_some, option_to_list}
 use Rattle.std.specs.List.{list_any}
 use Rattle.std.specs.Option.{option_or}
 use Rattle.std.specs.Str.{is_utf8}
-use Rattle.mk_reader.specs.Text.{is_empty}
+use Rattle.mk_lines.specs.Text.{is_empty}
 use Rattle.st_records.specs.declared.record.Entry.{Entry}
 use Rattle.mk_rule_lines.specs.Explicit.{explicit_targets, makes_phony, is_phony}
-use Rattle.mk_rule_lines.specs.Forms.{forms_of}
+use Rattle.mk_makefile.specs.Forms.{forms_of}
 use Rattle.mk_nodes.specs.Prerequisites as inputs
 use Rattle.mk_rule_lines.specs.Rules.{has, places, targets_by, suffixes_of}
-use Rattle.mk_rule_lines.specs.Table as table
+use Rattle.mk_makefile.specs.Table as table
 use Rattle.mk_sources.specs.There as sources
-use Rattle.mk_rule_lines.specs.declared.form.Form.{Form}
-use Rattle.mk_rule_lines.specs.declared.form.Source.{Source}
+use Rattle.mk_makefile.specs.declared.form.Form.{Form}
+use Rattle.mk_makefile.specs.declared.form.Source.{Source}
 use Rattle.mk_rule_lines.specs.declared.rule_line.RuleLine.{RuleLine}
-use Rattle.mk_rule_lines.specs.declared.table.TargetTable.{TargetTable}
+use Rattle.mk_makefile.specs.declared.table.TargetTable.{TargetTable}
 use Rattle.mk_nodes.specs.Chain.{source_in, steps_of}
 use Rattle.mk_nodes.specs.declared.limits.TheConstants.{MAX_STEPS}
 use Rattle.mk_nodes.specs.Wanted.{from_wanted}

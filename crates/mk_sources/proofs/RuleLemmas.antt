@@ -1,7 +1,7 @@
 -- What the table of targets says of a name, in terms of the lines.
 use Rattle.std.proofs.Common.{◌≡◌, ◌+◌, ℕ, Bool, true, false, not, List, [], ◌∷◌, refl}
 use Rattle.std.specs.List.{list_any}
-use Rattle.mk_reader.specs.Text.{is_empty}
+use Rattle.mk_lines.specs.Text.{is_empty}
 use Rattle.mk_rule_lines.specs.Rules.{places}
 use Rattle.mk_rule_lines.specs.declared.rule_line.RuleLine.{RuleLine}
 

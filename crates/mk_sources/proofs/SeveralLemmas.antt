@@ -7,7 +7,7 @@ use Rattle.mk_rule_lines.specs.Explicit.{is_phony}
 use Rattle.mk_rule_lines.specs.Rules.{has}
 use Rattle.mk_rule_lines.specs.declared.fault.RuleFault.{RuleFault}
 use Rattle.mk_rule_lines.specs.declared.fault.RuleFault.TheVariants as fault
-use Rattle.mk_rule_lines.specs.declared.form.Source.{Source}
+use Rattle.mk_makefile.specs.declared.form.Source.{Source}
 use Rattle.mk_rule_lines.specs.declared.rule_line.RuleLine.{RuleLine}
 use Rattle.mk_sources.specs.Asked.{IsOthersFault}
 use Rattle.mk_sources.specs.Looks.{IsLookFault}

@@ -7,16 +7,16 @@ use Rattle.std.specs.Option.{option_or}
 use Rattle.std.proofs.lemmas.Bool.{and_parts, and_from}
 use Rattle.std.proofs.lemmas.List.{append_assoc, take_more}
 use Rattle.std.proofs.lemmas.List.Folds.{find-append}
-use Rattle.mk_rule_lines.specs.Source.{stem_of, source_at, candidates, source_of}
+use Rattle.mk_makefile.specs.Source.{stem_of, source_at, candidates, source_of}
 use Rattle.mk_sources.specs.Source.{IsFirstAsked, IsReached, IsAllFault, IsSourceFault}
 use Rattle.std.proofs.lemmas.Option.{slice_get_read}
 use Rattle.mk_sources.specs.Looks.{IsLookFault}
-use Rattle.mk_rule_lines.specs.Table.{is_named, named_at}
+use Rattle.mk_makefile.specs.Table.{is_named, named_at}
 use Rattle.mk_sources.specs.There.{is_there}
-use Rattle.mk_rule_lines.specs.declared.table.TargetTable.{TargetTable}
+use Rattle.mk_makefile.specs.declared.table.TargetTable.{TargetTable}
 use Rattle.mk_rule_lines.specs.declared.fault.RuleFault.{RuleFault}
 use Rattle.mk_rule_lines.specs.declared.fault.RuleFault.TheVariants as fault
-use Rattle.mk_rule_lines.specs.declared.form.Form.{Form}
+use Rattle.mk_makefile.specs.declared.form.Form.{Form}
 use Rattle.mk_nodes.specs.declared.file_look.FileLook.{FileLook}
 
 -- the forms from one on

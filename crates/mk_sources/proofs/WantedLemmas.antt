@@ -4,8 +4,8 @@ use Rattle.std.specs.Prelude.{filter, if◌then◌else◌}
 use Rattle.std.specs.List.{list_all}
 use Rattle.std.proofs.lemmas.List.{take-append-drop}
 use Rattle.std.proofs.lemmas.List.Elements.{filter-append}
-use Rattle.mk_rule_lines.specs.Source.{stem_of, source_at, source_of}
-use Rattle.mk_rule_lines.specs.declared.form.Form.{Form}
+use Rattle.mk_makefile.specs.Source.{stem_of, source_at, source_of}
+use Rattle.mk_makefile.specs.declared.form.Form.{Form}
 use Rattle.mk_sources.proofs.SourceLemmas.{from_form, up_to_form, source_of-behind, taken, passed, unfit}
 
 module _ (is_there : List ℕ → Bool) (picks : Form → Bool) (name : List ℕ) where

@@ -5,10 +5,10 @@ use Rattle.mk_nodes.specs.Prerequisites.{IsTextAmong, inputs_of, own_recipes, fo
 use Rattle.mk_nodes.specs.Groups.{others_in}
 use Rattle.mk_rule_lines.specs.Explicit.{is_phony}
 use Rattle.mk_rule_lines.specs.Rules.{has}
-use Rattle.mk_rule_lines.specs.declared.form.Form.{Form}
-use Rattle.mk_rule_lines.specs.declared.form.Source.{Source}
+use Rattle.mk_makefile.specs.declared.form.Form.{Form}
+use Rattle.mk_makefile.specs.declared.form.Source.{Source}
 use Rattle.mk_rule_lines.specs.declared.rule_line.RuleLine.{RuleLine}
-use Rattle.mk_rule_lines.specs.declared.table.TargetTable.{TargetTable}
+use Rattle.mk_makefile.specs.declared.table.TargetTable.{TargetTable}
 use Rattle.mk_rule_lines.specs.declared.fault.RuleFault.{RuleFault}
 use Rattle.mk_rule_lines.specs.declared.fault.RuleFault.TheVariants as fault
 use Rattle.mk_sources.specs.Search.{IsSearched}

@@ -1,11 +1,11 @@
 -- Which names the search for a chain asks for.
 use Rattle.std.specs.Prelude.{◌≡◌, ◌⊎◌, ◌<◌, ◌≤◌, ℕ, zero, suc, false, not, List, [], ◌∷◌, ◌++◌, Option, None}
-use Rattle.mk_rule_lines.specs.Source.{candidates, source_of}
-use Rattle.mk_rule_lines.specs.Table.{is_named, named_at}
+use Rattle.mk_makefile.specs.Source.{candidates, source_of}
+use Rattle.mk_makefile.specs.Table.{is_named, named_at}
 use Rattle.mk_sources.specs.There.{is_there}
-use Rattle.mk_rule_lines.specs.declared.form.Form.{Form}
-use Rattle.mk_rule_lines.specs.declared.form.Source.{Source}
-use Rattle.mk_rule_lines.specs.declared.table.TargetTable.{TargetTable}
+use Rattle.mk_makefile.specs.declared.form.Form.{Form}
+use Rattle.mk_makefile.specs.declared.form.Source.{Source}
+use Rattle.mk_makefile.specs.declared.table.TargetTable.{TargetTable}
 use Rattle.mk_rule_lines.specs.declared.fault.RuleFault.{RuleFault}
 use Rattle.mk_rule_lines.specs.declared.fault.RuleFault.TheVariants as fault
 use Rattle.mk_nodes.specs.Chain.{has_a_type, usable}

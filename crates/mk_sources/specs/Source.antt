@@ -1,11 +1,11 @@
 -- The search for the file that an implicit rule makes a name from.
 use Rattle.std.specs.Prelude.{◌≡◌, ℕ, slice_get, take, true, false, List, ◌∷◌, ◌++◌, Option, Some, None}
 use Rattle.std.specs.List.{list_all}
-use Rattle.mk_rule_lines.specs.Source.{stem_of, source_at, source_of}
-use Rattle.mk_rule_lines.specs.Table.{is_named, named_at}
+use Rattle.mk_makefile.specs.Source.{stem_of, source_at, source_of}
+use Rattle.mk_makefile.specs.Table.{is_named, named_at}
 use Rattle.mk_sources.specs.There.{is_there}
-use Rattle.mk_rule_lines.specs.declared.form.Form.{Form}
-use Rattle.mk_rule_lines.specs.declared.table.TargetTable.{TargetTable}
+use Rattle.mk_makefile.specs.declared.form.Form.{Form}
+use Rattle.mk_makefile.specs.declared.table.TargetTable.{TargetTable}
 use Rattle.mk_rule_lines.specs.declared.fault.RuleFault.{RuleFault}
 use Rattle.mk_rule_lines.specs.declared.fault.RuleFault.TheVariants as fault
 use Rattle.mk_nodes.specs.declared.file_look.FileLook.{FileLook}

@@ -2,7 +2,7 @@
 ghost use Rattle.std.specs.Prelude.{◌≡◌, ◌<◌, ℕ, false, List, ◌∷◌, Option, None, option_map, if◌then◌else◌, IfOk, IfErr};
 ghost use Rattle.std.specs.List.{list_all};
 ghost use Rattle.mk_graph.specs.Edges.{has as has_number};
-ghost use Rattle.mk_rule_lines.specs.Source.{stem_of, source_of};
+ghost use Rattle.mk_makefile.specs.Source.{stem_of, source_of};
 ghost use Rattle.mk_sources.specs.There.{is_there};
 ghost use Rattle.mk_nodes.specs.Chain.{any_wide, steps_of, makes_any, has_a_type, is_usable, usable, first_that, can_be, chained, source_in};
 ghost use Rattle.mk_nodes.specs.Links.{AreLinks};
@@ -14,8 +14,9 @@ use crate::links::{makes_any, may_lead_on, stem_of, steps_behind};
 use crate::source::{is_there, source_of};
 use crate::tree::Tree;
 use byte_strings::ByteStrings;
+use mk_makefile::{Form, Source, TargetTable};
 use mk_nodes::MAX_STEPS;
-use mk_rule_lines::{Form, RuleFault, RuleLine, Source, TargetTable};
+use mk_rule_lines::{RuleFault, RuleLine};
 use std::alloc::{AllocError, Global};
 
 /// Whether some line is in the wide profile.

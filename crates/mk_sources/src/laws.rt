@@ -1,7 +1,7 @@
 //! What holds of the definitions alone. The functions do nothing: what they ensure is the law.
 ghost use Rattle.std.specs.Prelude.{◌≡◌, ℕ, List, Some, None};
 ghost use Rattle.mk_nodes.specs.Prerequisites.{Inputs, implicit_source, recipe_of, source_name};
-ghost use Rattle.mk_rule_lines.specs.declared.form.Source.{Source};
+ghost use Rattle.mk_makefile.specs.declared.form.Source.{Source};
 
 /// A name that an implicit rule makes by the run for another one has no recipe of its own, and the other one is its source, whose
 /// recipe is the rule's: so it waits for that run, and is remade where that is.

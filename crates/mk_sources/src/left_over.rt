@@ -1,15 +1,16 @@
 //! What nothing else makes is made by the recipe of `.DEFAULT`.
-ghost use Rattle.std.specs.Prelude.{◌≡◌, false, ◌&&◌, ◌||◌, [], ◌∷◌, filter, slice_get, is_none, codes, option_to_list};
-ghost use Rattle.std.specs.Option.{option_copied, option_map_or};
-ghost use Rattle.mk_reader.specs.Text.{is_empty};
+ghost use Rattle.std.specs.Prelude.{◌≡◌, ◌&&◌, ◌||◌, [], ◌∷◌, filter, slice_get, is_none, codes, option_to_list};
+ghost use Rattle.std.specs.Option.{option_copied};
+ghost use Rattle.mk_lines.specs.Text.{is_empty};
 ghost use Rattle.mk_rule_lines.specs.Explicit.{explicit_targets, is_default_at};
 ghost use Rattle.mk_rule_lines.specs.Rules.{recipe_places};
-ghost use Rattle.mk_rule_lines.specs.Table.{named_at};
-ghost use Rattle.mk_nodes.specs.Prerequisites.{default_of, is_cut, run_by, rule_or};
+ghost use Rattle.mk_makefile.specs.Table.{named_at};
+ghost use Rattle.mk_nodes.specs.Prerequisites.{default_of, is_unfinished, run_by, rule_or};
 
-use mk_nodes::Stamp;
-use mk_rule_lines::{RuleLine, Source, TargetTable, is_default_at};
-use st_records::{PackedEntry, Phase};
+use mk_makefile::{Source, TargetTable};
+use mk_nodes::{Stamp, is_unfinished};
+use mk_rule_lines::{RuleLine, is_default_at};
+use st_records::PackedEntry;
 
 /// The line of this number, where it is one of `.DEFAULT`.
 fn default_at(lines: &[RuleLine], number: usize) -> Option<usize>
@@ -33,28 +34,9 @@ pub fn default_of(lines: &[RuleLine], targets: &TargetTable) -> Option<usize>
     }
 }
 
-fn is_cut(phase: Phase) -> bool
-    ensures { result ≡ is_cut phase }
-{
-    match phase {
-        Phase::Begun | Phase::Failed(_) => true,
-        Phase::Done => false,
-    }
-}
-
-/// Whether the state says that a recipe wasn't run to its end.
-fn is_unfinished(entry: Option<&PackedEntry>) -> bool
-    ensures { result ≡ option_map_or (λ e. is_cut e.phase) (option_copied entry.entry) false }
-{
-    match entry {
-        Some(entry) => is_cut(entry.phase()),
-        None => false,
-    }
-}
-
 /// Whether a name is left to `.DEFAULT`, which the lines of these numbers make.
 pub(crate) fn is_left(numbers: &[usize], stamp: &Stamp, entry: Option<&PackedEntry>) -> bool
-    ensures { result ≡ (is_empty numbers.now && (is_none stamp.now || option_map_or (λ e. is_cut e.phase) (option_copied entry.entry) false)) }
+    ensures { result ≡ (is_empty numbers.now && (is_none stamp.now || is_unfinished (option_copied entry.entry))) }
 {
     numbers.is_empty() && (!stamp.is_some() || is_unfinished(entry))
 }

@@ -2,14 +2,14 @@
 ghost use Rattle.std.specs.Prelude.{◌≡◌, ◌<◌, ◌≤◌, ℕ, List, Bool, true, false, map, option_map, slice_get, length, Some, None, IfOk, OnOk, IfSome};
 ghost use Rattle.std.specs.List.{list_any, list_all};
 ghost use Rattle.mk_macros.specs.Words.{place_of};
-ghost use Rattle.mk_reader.specs.Text.{is_empty};
-ghost use Rattle.mk_rule_lines.specs.Source.{stem_of, source_at, with_stem};
-ghost use Rattle.mk_rule_lines.specs.declared.form.Form.{Form};
+ghost use Rattle.mk_lines.specs.Text.{is_empty};
+ghost use Rattle.mk_makefile.specs.Source.{stem_of, source_at, with_stem};
+ghost use Rattle.mk_makefile.specs.declared.form.Form.{Form};
 ghost use Rattle.mk_nodes.specs.Chain.{makes_any, can_be};
 ghost use Rattle.mk_nodes.specs.Links.{end_of, ends_with, end_alike, may_make, leads_on, AreLinks};
 ghost use Rattle.mk_sources.specs.Search.{IsAskedIn};
 
-use mk_rule_lines::Form;
+use mk_makefile::Form;
 use std::alloc::{AllocError, Global};
 
 /// Whether a form has nothing beside its stem.

@@ -6,7 +6,7 @@ ghost use Rattle.mk_nodes.specs.Prerequisites.{made_names, made_from, distinct};
 use crate::distinct_names::DistinctNames;
 use crate::listed::names_before;
 use byte_strings::ByteStrings;
-use mk_rule_lines::Source;
+use mk_makefile::Source;
 use std::alloc::{AllocError, Global};
 
 /// Mentions all of these.

@@ -7,11 +7,11 @@ ghost use Rattle.mk_nodes.specs.Chain.{steps_of};
 ghost use Rattle.mk_nodes.specs.Links.{AreLinks};
 ghost use Rattle.mk_sources.specs.Search.{IsSearchFault};
 ghost use Rattle.mk_sources.specs.Looks.{Looks};
-ghost use Rattle.mk_rule_lines.specs.Table.{named_at};
+ghost use Rattle.mk_makefile.specs.Table.{named_at};
 ghost use Rattle.mk_sources.specs.There.{is_there};
-ghost use Rattle.mk_rule_lines.specs.Doubles.{first_double};
+ghost use Rattle.mk_makefile.specs.Doubles.{first_double};
 ghost use Rattle.mk_rule_lines.specs.Explicit.{numbers_of, order_only_in};
-ghost use Rattle.mk_rule_lines.specs.Forms.{forms_of};
+ghost use Rattle.mk_makefile.specs.Forms.{forms_of};
 ghost use Rattle.mk_nodes.specs.Prerequisites.{any_or, default_of};
 ghost use Rattle.mk_nodes.specs.declared.file_look.FileLook.{FileLook};
 
@@ -20,11 +20,9 @@ use crate::left_over::is_left;
 use crate::tree::Tree;
 use crate::wanted::from_wanted;
 use byte_strings::ByteStrings;
+use mk_makefile::{Form, Source, TargetTable, first_double};
 use mk_nodes::Stamp;
-use mk_rule_lines::{
-    Form, RuleFault, RuleLine, Source, TargetTable, explicit_of, first_double, is_phony,
-    may_have_bar, order_only_of,
-};
+use mk_rule_lines::{RuleFault, RuleLine, explicit_of, is_phony, may_have_bar, order_only_of};
 use st_records::PackedEntry;
 use st_state::State;
 use std::alloc::{AllocError, Global};

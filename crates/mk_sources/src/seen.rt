@@ -20,8 +20,9 @@ use crate::rules::Rules;
 use crate::several::{group_of, implicit_source};
 use crate::tree::Tree;
 use byte_strings::{ByteString, ByteStrings};
+use mk_makefile::Source;
 use mk_nodes::{Group, Rare, RareParts, ShortNumber, Stamp};
-use mk_rule_lines::{RuleFault, Source};
+use mk_rule_lines::RuleFault;
 use std::alloc::{AllocError, Global};
 use std::boxed::Box;
 

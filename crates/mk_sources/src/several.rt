@@ -13,8 +13,9 @@ use crate::lookup::{found_source, seen_stamp};
 use crate::rules::Rules;
 use crate::tree::Tree;
 use byte_strings::ByteStrings;
+use mk_makefile::Source;
 use mk_nodes::{FileLook, FileLooks, Group};
-use mk_rule_lines::{RuleFault, Source};
+use mk_rule_lines::RuleFault;
 use std::alloc::Global;
 use std::boxed::Box;
 

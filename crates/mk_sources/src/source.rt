@@ -1,17 +1,18 @@
 //! The implicit source of a name.
 ghost use Rattle.std.specs.Prelude.{◌≡◌, ℕ, List, Option, false, IfOk, IfErr, IsErr};
 ghost use Rattle.std.specs.List.{list_all};
-ghost use Rattle.mk_rule_lines.specs.Source.{source_at, source_of};
+ghost use Rattle.mk_makefile.specs.Source.{source_at, source_of};
 ghost use Rattle.mk_sources.specs.Source.{IsAllFault, IsSourceFault};
 ghost use Rattle.mk_sources.specs.Looks.{IsLookFault, Looks};
-ghost use Rattle.mk_rule_lines.specs.Table.{is_named, named_at};
+ghost use Rattle.mk_makefile.specs.Table.{is_named, named_at};
 ghost use Rattle.mk_sources.specs.There.{is_there};
 ghost use Rattle.mk_nodes.specs.declared.file_look.FileLook.{FileLook};
 
 use crate::links::{set_name, stem_of};
 use crate::look::stamp_of;
 use crate::tree::Tree;
-use mk_rule_lines::{Form, RuleFault, Source, TargetTable};
+use mk_makefile::{Form, Source, TargetTable};
+use mk_rule_lines::RuleFault;
 use std::alloc::Global;
 
 /// Whether some line makes the name, or it has a file.

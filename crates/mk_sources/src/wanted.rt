@@ -1,13 +1,14 @@
 //! Names that ought to exist, since a rule line has them among its prerequisites.
 ghost use Rattle.std.specs.Prelude.{◌≡◌, ◌||◌, None, option_map, if◌then◌else◌, IfOk};
 ghost use Rattle.std.specs.List.{list_all};
-ghost use Rattle.mk_rule_lines.specs.Source.{stem_of, source_at};
+ghost use Rattle.mk_makefile.specs.Source.{stem_of, source_at};
 ghost use Rattle.mk_nodes.specs.Prerequisites.{is_target};
 ghost use Rattle.mk_nodes.specs.Wanted.{wants, is_wanted, takes_any, from_wanted};
 
 use crate::links::{ends_anyhow, set_name, stem_of};
 use crate::rules::Rules;
-use mk_rule_lines::{Form, RuleLine, Source};
+use mk_makefile::{Form, Source};
+use mk_rule_lines::RuleLine;
 use std::alloc::{AllocError, Global};
 
 /// Whether the line is one of a rule and has the name among its prerequisites, in the wide profile.

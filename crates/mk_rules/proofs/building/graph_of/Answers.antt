@@ -8,8 +8,8 @@ use Rattle.mk_edges.specs.Known.{IsKnown}
 use Rattle.mk_nodes.specs.declared.graph.Node.{Node}
 use Rattle.mk_rule_lines.specs.Explicit.{explicit_targets}
 use Rattle.mk_rule_lines.specs.Rules.{recipe_places}
-use Rattle.mk_rule_lines.specs.Goals.{goals_of}
-use Rattle.mk_rule_lines.specs.Taken.{AreTaken}
+use Rattle.mk_settings.specs.Goals.{goals_of}
+use Rattle.mk_makefile.specs.Taken.{AreTaken}
 use Rattle.mk_rule_lines.specs.declared.rule_line.RuleLine.{RuleLine}
 use Rattle.mk_nodes.specs.Node.{EachHasOneNumber}
 use Rattle.mk_nodes.specs.Prerequisites.{Inputs, is_target}

@@ -8,7 +8,7 @@ use Rattle.mk_graph.specs.Plan.{IsPlan}
 use Rattle.mk_graph.specs.Numbering.{AreDescribed, has_name, name_at}
 use Rattle.mk_graph.proofs.CycleLemmas.{closed_row}
 use Rattle.mk_graph.specs.declared.numbering.Numbered.{Numbered}
-use Rattle.mk_rule_lines.specs.Goals.{goals_of}
+use Rattle.mk_settings.specs.Goals.{goals_of}
 use Rattle.mk_rules.specs.Found.{AreFound, IsGraphlessFault}
 use Rattle.mk_nodes.specs.Graph.{AreHard, AreRequired, AreSoft}
 use Rattle.mk_edges.specs.Known.{IsKnown}

@@ -3,15 +3,15 @@ use Rattle.std.specs.FinMap as map
 use Rattle.std.specs.Prelude.{codes, option_to_list}
 use Rattle.mk_nodes.specs.Chain.{steps_of}
 use Rattle.mk_rule_lines.specs.Explicit.{explicit_targets}
-use Rattle.mk_rule_lines.specs.declared.form.Form.{Form}
+use Rattle.mk_makefile.specs.declared.form.Form.{Form}
 use Rattle.mk_nodes.specs.Links.{AreLinks}
 use Rattle.mk_rules.specs.Faults.{IsGraphFault}
-use Rattle.mk_rule_lines.specs.Forms.{forms_of}
+use Rattle.mk_makefile.specs.Forms.{forms_of}
 use Rattle.mk_rules.specs.Found.{AreFound, IsFindingFault}
-use Rattle.mk_rule_lines.specs.Goals.{goals_of, IsGoalFault}
+use Rattle.mk_settings.specs.Goals.{goals_of, IsGoalFault}
 use Rattle.mk_nodes.specs.Prerequisites.{inputs_of, default_of}
 use Rattle.mk_rule_lines.specs.Rules.{has, places, recipe_places, targets_by, suffixes_of}
-use Rattle.mk_rule_lines.specs.Table.{named_at}
+use Rattle.mk_makefile.specs.Table.{named_at}
 use Rattle.mk_rule_lines.specs.declared.fault.RuleFault.{RuleFault}
 use Rattle.mk_rule_lines.specs.declared.rule_line.RuleLine.{RuleLine}
 use Rattle.mk_rules.proofs.LookLemmas.{asked_none}

@@ -12,7 +12,7 @@ use Rattle.mk_nodes.specs.Prerequisites.{inputs_of, is_node, hidden_in, prerequi
 use Rattle.mk_rules.specs.Row.{named}
 use Rattle.mk_sources.specs.Seen.{made_in}
 use Rattle.mk_rules.specs.Completed.{IsNumberedAs}
-use Rattle.mk_rule_lines.proofs.TableLemmas.{on_ok}
+use Rattle.mk_rule_lines.proofs.ResultLemmas.{on_ok}
 use Rattle.mk_rules.proofs.FinderLemmas.{on_ok_if, all_are, known_is, hidden_look}
 use Rattle.mk_rules.proofs.finder.look_up.Goals as goal
 

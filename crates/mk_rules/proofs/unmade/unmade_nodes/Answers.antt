@@ -5,9 +5,9 @@ use Rattle.mk_graph.specs.Edges.{has}
 use Rattle.mk_graph.specs.Numbering.{AreDescribed, name_at}
 use Rattle.mk_edges.specs.Known.{IsKnown}
 use Rattle.mk_nodes.specs.Prerequisites.{Inputs, default_of, is_target, is_made}
-use Rattle.mk_rule_lines.specs.Table.{is_named, named_at}
+use Rattle.mk_makefile.specs.Table.{is_named, named_at}
 use Rattle.mk_rule_lines.specs.declared.rule_line.RuleLine.{RuleLine}
-use Rattle.mk_rule_lines.specs.declared.table.TargetTable.{TargetTable}
+use Rattle.mk_makefile.specs.declared.table.TargetTable.{TargetTable}
 use Rattle.mk_nodes.specs.declared.graph.Node.{Node}
 use Rattle.mk_rules.proofs.MadeLemmas.{made_is, made_more, unmade_more}
 use Rattle.mk_rules.proofs.unmade.unmade_nodes.Goals as goal

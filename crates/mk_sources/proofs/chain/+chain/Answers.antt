@@ -4,9 +4,9 @@ use Rattle.std.proofs.lemmas.Option.{slice_get_read}
 use Rattle.std.specs.List.{list_all}
 use Rattle.std.proofs.lemmas.List.{append_assoc, append-nil}
 use Rattle.mk_rule_lines.proofs.LineLemmas.{handed_on}
-use Rattle.mk_rule_lines.specs.Source.{source_at}
+use Rattle.mk_makefile.specs.Source.{source_at}
 use Rattle.mk_sources.specs.There.{is_there}
-use Rattle.mk_rule_lines.specs.declared.form.Source.{Source}
+use Rattle.mk_makefile.specs.declared.form.Source.{Source}
 use Rattle.mk_nodes.specs.Chain.{usable, can_be}
 use Rattle.mk_sources.specs.LooksLaws.{looks_none, looks_on}
 use Rattle.mk_sources.specs.Search.{IsAmong, IsBehind, IsAskedIn, IsLedFault}

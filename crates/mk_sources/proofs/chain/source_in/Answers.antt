@@ -1,5 +1,5 @@
 use Rattle.std.proofs.Common.{◌≡◌, Some, sym}
-use Rattle.mk_rule_lines.specs.Source.{source_of}
+use Rattle.mk_makefile.specs.Source.{source_of}
 use Rattle.mk_sources.specs.There.{is_there}
 use Rattle.mk_sources.proofs.ChainLemmas.{source_there}
 use Rattle.mk_sources.proofs.chain.source_in.Goals as goal

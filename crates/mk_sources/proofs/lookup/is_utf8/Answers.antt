@@ -1,6 +1,6 @@
 use Rattle.std.proofs.Common.{sym}
 use Rattle.std.proofs.lemmas.Str.{is_utf8-from_IsUtf8}
-use Rattle.mk_reader.proofs.FormLemmas.{is_utf8-none}
+use Rattle.mk_lines.proofs.TextLemmas.{is_utf8-none}
 use Rattle.mk_sources.proofs.lookup.is_utf8.Goals as goal
 
 pub returns-in-Ok : goal.returns-in-Ok

@@ -1,6 +1,6 @@
 use Rattle.std.proofs.Common.{◌∙◌, ℕ, Option, sym, ap}
 use Rattle.std.specs.Prelude.{option_to_list}
-use Rattle.mk_rule_lines.specs.Doubles.{first_double}
+use Rattle.mk_makefile.specs.Doubles.{first_double}
 use Rattle.mk_nodes.specs.Prerequisites.{any_or}
 use Rattle.mk_sources.proofs.rules.own_or_first.Goals as goal
 

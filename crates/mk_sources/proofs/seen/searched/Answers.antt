@@ -3,7 +3,7 @@ use Rattle.std.specs.Prelude.{option_to_list}
 use Rattle.std.specs.FinMap as map
 use Rattle.mk_rule_lines.proofs.LineLemmas.{handed_on}
 use Rattle.mk_rule_lines.proofs.ResultLemmas.{if_ok, if_err}
-use Rattle.mk_rule_lines.specs.declared.form.Source.{Source}
+use Rattle.mk_makefile.specs.declared.form.Source.{Source}
 use Rattle.mk_sources.specs.Asked.{IsLookUpFault}
 use Rattle.mk_sources.specs.LooksLaws.{looks_on}
 use Rattle.mk_nodes.specs.Prerequisites.{inputs_of, implicit_source}

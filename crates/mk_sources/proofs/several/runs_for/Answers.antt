@@ -2,7 +2,7 @@ use Rattle.std.proofs.Common.{◌≡◌, ◌∙◌, Option, Some, None, false, a
 use Rattle.std.specs.Option.{option_map_or}
 use Rattle.std.specs.FinMap as map
 use Rattle.mk_rule_lines.proofs.LineLemmas.{handed_on}
-use Rattle.mk_rule_lines.specs.declared.form.Source.{Source}
+use Rattle.mk_makefile.specs.declared.form.Source.{Source}
 use Rattle.mk_sources.proofs.AskedLemmas.{search_look}
 use Rattle.mk_sources.specs.Asked.{IsFoundFault}
 use Rattle.mk_nodes.specs.Prerequisites.{inputs_of, found_source, is_run_of}

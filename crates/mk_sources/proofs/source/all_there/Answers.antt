@@ -2,8 +2,8 @@ use Rattle.std.proofs.Common.{◌≡◌, ◌++◌, ◌∷◌, ◌&&◌, map, Lis
 use Rattle.std.specs.List.{list_all}
 use Rattle.std.proofs.lemmas.List.{append_assoc, append-nil, map-append}
 use Rattle.mk_rule_lines.proofs.LineLemmas.{handed_on}
-use Rattle.mk_rule_lines.specs.Source.{with_stem}
-use Rattle.mk_rule_lines.specs.Table.{is_named, named_at}
+use Rattle.mk_makefile.specs.Source.{with_stem}
+use Rattle.mk_makefile.specs.Table.{is_named, named_at}
 use Rattle.mk_sources.specs.There.{is_there}
 use Rattle.mk_sources.specs.Looks.{IsLookFault}
 use Rattle.mk_sources.specs.LooksLaws.{looks_none, looks_on}

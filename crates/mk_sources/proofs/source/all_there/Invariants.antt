@@ -1,7 +1,7 @@
 use Rattle.std.proofs.Common.{◌≡◌, true, map, List, ◌++◌, ℕ, Option}
 use Rattle.std.specs.List.{list_all}
 use Rattle.mk_sources.specs.Looks.{Looks}
-use Rattle.mk_rule_lines.specs.Source.{with_stem}
+use Rattle.mk_makefile.specs.Source.{with_stem}
 use Rattle.mk_sources.specs.There.{is_there}
 use Rattle.mk_nodes.specs.declared.file_look.FileLook.{FileLook}
 use Rattle.mk_sources.proofs.source.all_there.Given as goal

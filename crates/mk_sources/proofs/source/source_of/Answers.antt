@@ -2,11 +2,11 @@ use Rattle.std.proofs.Common.{◌≡◌, ◌+◌, ◌++◌, ◌∷◌, List, ℕ
 use Rattle.std.specs.List.{list_all}
 use Rattle.std.proofs.lemmas.List.{take-append-drop}
 use Rattle.mk_sources.specs.LooksLaws.{looks_none, looks_on}
-use Rattle.mk_rule_lines.specs.Source.{stem_of, source_at, source_of}
+use Rattle.mk_makefile.specs.Source.{stem_of, source_at, source_of}
 use Rattle.mk_sources.specs.Source.{IsAllFault, IsSourceFault}
 use Rattle.mk_sources.specs.There.{is_there}
-use Rattle.mk_rule_lines.specs.declared.form.Form.{Form}
-use Rattle.mk_rule_lines.specs.declared.form.Source.{Source}
+use Rattle.mk_makefile.specs.declared.form.Form.{Form}
+use Rattle.mk_makefile.specs.declared.form.Source.{Source}
 use Rattle.mk_sources.proofs.SourceLemmas.{from_form, taken, passed, unfit, source_of-behind, none_more, reached_fault}
 use Rattle.mk_rule_lines.proofs.LineLemmas.{handed_on}
 use Rattle.mk_sources.proofs.source.source_of.Goals as goal

@@ -1,5 +1,5 @@
 use Rattle.std.proofs.Common.{◌≡◌, take, List, ℕ, Option, None}
-use Rattle.mk_rule_lines.specs.Source.{source_of}
+use Rattle.mk_makefile.specs.Source.{source_of}
 use Rattle.mk_sources.specs.Looks.{Looks}
 use Rattle.mk_sources.specs.There.{is_there}
 use Rattle.mk_nodes.specs.declared.file_look.FileLook.{FileLook}

@@ -1,7 +1,7 @@
 use Rattle.std.proofs.Common.{◌≡◌, ◌++◌, ◌∷◌, ◌&&◌, ◌||◌, map, List, ℕ, [], Bool, false, refl, sym, ap, ◌∙◌}
 use Rattle.std.specs.List.{list_all}
 use Rattle.std.proofs.lemmas.List.{append_assoc, append-nil, map-append}
-use Rattle.mk_rule_lines.specs.Source.{with_stem}
+use Rattle.mk_makefile.specs.Source.{with_stem}
 use Rattle.mk_nodes.specs.Prerequisites.{is_target}
 use Rattle.mk_nodes.specs.Wanted.{is_wanted}
 use Rattle.mk_sources.proofs.SourceLemmas.{all_more, all_left}

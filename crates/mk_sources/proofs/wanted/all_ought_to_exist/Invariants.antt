@@ -1,6 +1,6 @@
 use Rattle.std.proofs.Common.{◌≡◌, ◌||◌, true, map, List, ◌++◌, ℕ}
 use Rattle.std.specs.List.{list_all}
-use Rattle.mk_rule_lines.specs.Source.{with_stem}
+use Rattle.mk_makefile.specs.Source.{with_stem}
 use Rattle.mk_nodes.specs.Prerequisites.{is_target}
 use Rattle.mk_nodes.specs.Wanted.{is_wanted}
 use Rattle.mk_sources.proofs.wanted.all_ought_to_exist.Given as goal

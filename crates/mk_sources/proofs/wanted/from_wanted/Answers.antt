@@ -1,7 +1,7 @@
 use Rattle.std.proofs.Common.{◌≡◌, ◌||◌, ◌∙◌, ℕ, Bool, true, false, List, Some, sym, ap}
 use Rattle.std.specs.List.{list_all}
-use Rattle.mk_rule_lines.specs.Source.{source_at}
-use Rattle.mk_rule_lines.specs.declared.form.Source.{Source}
+use Rattle.mk_makefile.specs.Source.{source_at}
+use Rattle.mk_makefile.specs.declared.form.Source.{Source}
 use Rattle.mk_nodes.specs.Prerequisites.{is_target}
 use Rattle.mk_nodes.specs.Wanted.{is_wanted, takes_any}
 use Rattle.mk_sources.proofs.WantedLemmas.{unfit_among, passed_among, taken_among}

@@ -1,6 +1,6 @@
 use Rattle.std.proofs.Common.{◌≡◌, ◌||◌, take, None}
 use Rattle.std.specs.Prelude.{filter}
-use Rattle.mk_rule_lines.specs.Source.{source_of}
+use Rattle.mk_makefile.specs.Source.{source_of}
 use Rattle.mk_nodes.specs.Prerequisites.{is_target}
 use Rattle.mk_nodes.specs.Wanted.{is_wanted, takes_any}
 use Rattle.mk_sources.proofs.wanted.from_wanted.Given as goal

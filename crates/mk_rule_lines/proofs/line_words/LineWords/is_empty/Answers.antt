@@ -1,7 +1,7 @@
 use Rattle.std.proofs.Common.{◌≡◌, sym, ap, ◌∙◌}
 use Rattle.std.specs.List.{list_all}
 use Rattle.byte_strings.specs.Blanks.{is_blank}
-use Rattle.mk_reader.specs.Text.{is_empty}
+use Rattle.mk_lines.specs.Text.{is_empty}
 use Rattle.mk_rule_lines.proofs.KindLemmas.{empty_decides}
 use Rattle.mk_rule_lines.proofs.WordByteLemmas.{blanks_alone}
 use Rattle.mk_rule_lines.proofs.line_words.LineWords.is_empty.Goals as goal

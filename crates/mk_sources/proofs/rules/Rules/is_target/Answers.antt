@@ -1,5 +1,5 @@
 use Rattle.std.proofs.Common.{ap, not, ℕ, List, ◌∙◌}
-use Rattle.mk_reader.specs.Text.{is_empty}
+use Rattle.mk_lines.specs.Text.{is_empty}
 use Rattle.mk_rule_lines.specs.Explicit.{explicit_targets}
 use Rattle.mk_rule_lines.specs.Rules.{has}
 use Rattle.mk_rule_lines.specs.declared.rule_line.RuleLine.{RuleLine}

@@ -1,0 +1,12 @@
+pub mod DoubleLemmas
+pub mod FormLemmas
+pub mod ImplicitLemmas
+pub mod InForceLemmas
+pub mod NumberedLemmas
+pub mod PlaceLemmas
+pub mod RecipeLemmas
+pub mod StemLemmas
+pub mod SupportedLemmas
+pub mod TableLemmas
+pub mod TakenLemmas
+pub mod UnsuffixedLemmas

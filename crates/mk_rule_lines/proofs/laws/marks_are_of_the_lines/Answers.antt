@@ -1,5 +1,0 @@
-use Rattle.mk_rule_lines.proofs.MarkLemmas.{marks_decide}
-use Rattle.mk_rule_lines.proofs.laws.marks_are_of_the_lines.Goals as goal
-
-pub returns : goal.returns
-returns c = marks_decide

@@ -1,8 +1,0 @@
-use Rattle.std.proofs.Common.{◌≡◌}
-use Rattle.mk_graph.specs.Numbering.{all_added}
-use Rattle.mk_rule_lines.proofs.marked.Marked.add_names.Given as goal
-
-abbrev pub invariant-loop-word : goal.invariant-loop-word
-invariant-loop-word l =
-    (l.self.all ≡ l.fn.self.all) × (all_added l.self.names l.word-iterator ≡ all_added l.fn.self.names l.line.prerequisites)
-    × (l.self.patterns ≡ l.fn.self.patterns)

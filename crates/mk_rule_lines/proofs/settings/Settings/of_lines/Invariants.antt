@@ -1,7 +1,0 @@
-use Rattle.std.proofs.Common.{◌≡◌, drop}
-use Rattle.mk_rule_lines.specs.Settled.{nothing_set}
-use Rattle.mk_rule_lines.proofs.SettledLemmas.{settings_behind}
-use Rattle.mk_rule_lines.proofs.settings.Settings.of_lines.Given as goal
-
-abbrev pub invariant-loop-line : goal.invariant-loop-line
-invariant-loop-line l = settings_behind l.settings (drop l.line-index l.lines) ≡ settings_behind nothing_set l.lines

@@ -1,6 +1,0 @@
-use Rattle.std.specs.List.{AllWithin}
-use Rattle.mk_rule_lines.specs.Supported.{IsSupported}
-use Rattle.mk_rule_lines.proofs.supported.check_lines.Given as goal
-
-abbrev pub invariant-loop-line : goal.invariant-loop-line
-invariant-loop-line l = AllWithin IsSupported l.lines 0 l.line-index

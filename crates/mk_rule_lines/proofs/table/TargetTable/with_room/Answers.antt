@@ -1,6 +1,0 @@
-use Rattle.std.proofs.Common.{refl}
-use Rattle.mk_graph.proofs.NameLemmas.{distinct_none}
-use Rattle.mk_rule_lines.proofs.table.TargetTable.with_room.Goals as goal
-
-pub invariant_of-result : goal.invariant_of-result
-invariant_of-result c = rw (c.with_room.ensures, c.in_ok-with_capacity.ensures.items) (distinct_none, refl)
