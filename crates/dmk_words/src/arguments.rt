@@ -1,5 +1,6 @@
 //! The words of the command line, as `clap` reads them by the options that there are.
-use crate::option_table::{Role, Row, Takes, options};
+use crate::loads::is_load;
+use crate::option_table::{LOAD, Role, Row, Takes, options};
 use crate::output::Output;
 use crate::request::WordsFault;
 use clap::{Arg, ArgAction, ArgMatches, Command};
@@ -40,6 +41,7 @@ fn named<'a>(alloc: Global, row: &Row) -> Result<Arg<'a>, AllocError> {
 fn told<'a>(arg: Arg<'a>, role: Role) -> Arg<'a> {
     match role {
         Role::Told(group, help) => arg.help_heading(group).help(help),
+        Role::Wide(group, help, _) => arg.help_heading(group).help(help),
         Role::Taken | Role::Refused(_) => arg.hide(true),
     }
 }
@@ -142,8 +144,16 @@ pub fn refusal(found: &ArgMatches<'_>) -> Option<WordsFault> {
     if modes.iter().any(|mode| Output::of(*mode).is_none()) {
         return Some(WordsFault::OtherOutput);
     }
+    let is_wide = found.contains_id("posix");
+    let loads = found.get_strs(LOAD).unwrap_or(&[]);
+    if is_wide && loads.iter().any(|load| !is_load(*load)) {
+        return Some(WordsFault::OtherLoad);
+    }
     for row in options() {
         match row.role {
+            Role::Wide(_, _, reason) if !is_wide && found.contains_id(row.id) => {
+                return Some(WordsFault::Unsupported(row.id, reason));
+            }
             Role::Refused(reason) if found.contains_id(row.id) => {
                 return Some(WordsFault::Unsupported(row.id, reason));
             }

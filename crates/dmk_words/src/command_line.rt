@@ -8,6 +8,7 @@ use crate::descriptors::with_pool_path;
 use crate::environment::read_environment;
 use crate::flags::taken_words;
 use crate::job_words::with_numbers;
+use crate::loads::load_of;
 use crate::mistake::write_mistake;
 use crate::program::started_by;
 use crate::request::{Asked, INPUT, Later, Request, WordsFault};
@@ -363,6 +364,7 @@ fn asked_of(alloc: Global, found: &ArgMatches<'_>, above: Above) -> Result<Asked
             trusts_files: found.contains_id("trusts_files"),
             has_jobs: named.is_some() || above.is_said,
             output: output_of(found),
+            most_load: load_of(found),
             hides_folder: found.contains_id("untold"),
             tells_folder: found.contains_id("told") && !found.contains_id("untold"),
             level: 0,

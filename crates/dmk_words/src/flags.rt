@@ -3,13 +3,16 @@
 ghost use Rattle.std.specs.Prelude.{◌≡◌, false, None, IfOk};
 ghost use Rattle.mk_profile.specs.Profile.{is_wide};
 
-use crate::option_table::HELD;
+use crate::loads::{load_in, long_load, may_be_load};
+use crate::option_table::{HELD, UNBOUND};
 use crate::output::Output;
 use crate::request::Later;
 use bd_lists::Variable;
 use byte_strings::ByteStrings;
 use dmk_reading::Options;
-use jb_flags::{Handed, definition_words, has_value, jobs_word, opened_words, words_of};
+use jb_flags::{
+    Handed, Load, definition_words, has_value, jobs_word, load_word, opened_words, words_of,
+};
 use mk_eval::doubled_text;
 use std::alloc::{AllocError, Global};
 
@@ -67,8 +70,48 @@ fn take_output(
     Ok(())
 }
 
+/// The option that has no further recipe begin from this load on, as a word of the command line.
+fn load_option(alloc: Global, load: Option<Load>) -> Result<Vec<u8>, AllocError> {
+    match load {
+        Some(load) => load_word(alloc, load),
+        None => {
+            let mut word = Vec::from_slice(alloc, b" -l")?;
+            word.extend_from_slice(UNBOUND.as_bytes())?;
+            Ok(word)
+        }
+    }
+}
+
+/// Takes from which load on no further recipe begins, where that is said: by what stands behind the option, or by the next word. One that
+/// is none is passed over.
+fn take_load(
+    alloc: Global,
+    taken: &mut ByteStrings,
+    said: Option<&[u8]>,
+    next: Option<&[u8]>,
+) -> Result<(), AllocError> {
+    let load = match said {
+        None => return Ok(()),
+        Some([]) => match next {
+            Some(word) if may_be_load(word) => Load::of(word),
+            _ => None,
+        },
+        Some(word) => match Load::of(word) {
+            Some(load) => Some(load),
+            None => return Ok(()),
+        },
+    };
+    let word = load_option(alloc, load)?;
+    taken.push(word.get(1..).unwrap_or(&[]))
+}
+
 /// Appends the options of a word that are taken, as a word of the command line.
-fn push_options(alloc: Global, taken: &mut ByteStrings, letters: &[u8]) -> Result<(), AllocError> {
+fn push_options(
+    alloc: Global,
+    taken: &mut ByteStrings,
+    letters: &[u8],
+    next: Option<&[u8]>,
+) -> Result<(), AllocError> {
     let mut word = vec![in alloc; b'-'; 1]?;
     for letter in letters {
         if has_value(*letter) {
@@ -81,7 +124,19 @@ fn push_options(alloc: Global, taken: &mut ByteStrings, letters: &[u8]) -> Resul
     if word.len() > 1 {
         taken.push(&word)?;
     }
+    take_load(alloc, taken, load_in(letters), next)?;
     take_output(alloc, taken, output_in(letters))
+}
+
+/// Takes a long option that has a value.
+fn take_long(
+    alloc: Global,
+    taken: &mut ByteStrings,
+    word: &[u8],
+    next: Option<&[u8]>,
+) -> Result<(), AllocError> {
+    take_load(alloc, taken, long_load(word), next)?;
+    take_output(alloc, taken, long_output(word))
 }
 
 /// The options and definitions of MAKEFLAGS, as words of the command line. The first word may be letters without a hyphen; behind `--` there
@@ -90,15 +145,19 @@ pub fn taken_words(alloc: Global, makeflags: &[u8]) -> Result<ByteStrings, Alloc
     let mut taken = ByteStrings::empty(alloc);
     let mut are_letters = true;
     let mut has_options = true;
-    for word in &words_of(alloc, makeflags)? {
+    let words = words_of(alloc, makeflags)?;
+    let mut ahead = words.iter();
+    let _first = ahead.next();
+    for word in &words {
+        let next = ahead.next();
         match word.strip_prefix(b"-") {
             Some(b"-") => has_options = false,
             Some([b'-', ..]) if has_options && word == HIDES_FOLDER => taken.push(word)?,
-            Some([b'-', ..]) if has_options => take_output(alloc, &mut taken, long_output(word))?,
+            Some([b'-', ..]) if has_options => take_long(alloc, &mut taken, word, next)?,
             Some([b'-', ..]) => {}
-            Some(letters) if has_options => push_options(alloc, &mut taken, letters)?,
+            Some(letters) if has_options => push_options(alloc, &mut taken, letters, next)?,
             None if word.contains(&b'=') => taken.push(word)?,
-            None if are_letters => push_options(alloc, &mut taken, word)?,
+            None if are_letters => push_options(alloc, &mut taken, word, next)?,
             _ => {}
         }
         are_letters = false;
@@ -133,6 +192,9 @@ fn option_word(alloc: Global, options: &Options, later: Later) -> Result<Vec<u8>
 /// The options that makes below are told: a word of letters, and behind it one with a value and a long one (GNU make).
 fn option_words(alloc: Global, options: &Options, later: Later) -> Result<Vec<u8>, AllocError> {
     let mut words = option_word(alloc, options, later)?;
+    if let Some(load) = later.most_load {
+        words.extend_from_slice(&load_word(alloc, load)?)?;
+    }
     if let Some(word) = output_word(later) {
         words.push(b' ')?;
         push_output(&mut words, word)?;

@@ -1,7 +1,8 @@
 //! Options whose value may be left out, where another word stands behind them: the number of a -j is that of the processors.
 ghost use Rattle.std.specs.Prelude.{◌≤◌};
 
-use crate::option_table::HELD;
+use crate::loads::may_be_load;
+use crate::option_table::{HELD, UNBOUND};
 use dmk_reading::MAX_WORKERS;
 use std::alloc::{AllocError, Global};
 use std::thread::{self, Threads};
@@ -50,6 +51,11 @@ fn is_number_of_jobs(word: &str) -> bool {
     }
 }
 
+// Whether a word is one of these, and the next one isn't meant as its load.
+fn has_no_load(word: &str, next: &str) -> bool {
+    (is_long(word, "load-average") || is_long(word, "max-load")) && !may_be_load(next.as_bytes())
+}
+
 // What is to be written behind a word that leaves its value out, so that the next word isn't taken for it.
 fn left_out<'a>(word: &str, next: &str, processors: &'a str) -> (&'static str, &'a str) {
     if is_long(word, "jobs") && !is_number_of_jobs(next) {
@@ -60,6 +66,10 @@ fn left_out<'a>(word: &str, next: &str, processors: &'a str) -> (&'static str, &
         ("=", HELD)
     } else if ends_in(word, 'O') {
         ("", HELD)
+    } else if has_no_load(word, next) {
+        ("=", UNBOUND)
+    } else if ends_in(word, 'l') && !may_be_load(next.as_bytes()) {
+        ("", UNBOUND)
     } else {
         ("", "")
     }

@@ -8,6 +8,7 @@ mod descriptors;
 mod environment;
 mod flags;
 mod job_words;
+mod loads;
 mod mistake;
 mod option_table;
 mod output;

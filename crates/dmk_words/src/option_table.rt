@@ -24,6 +24,8 @@ pub enum Role {
     Told(&'static str, &'static str),
     /// It is taken, and changes nothing.
     Taken,
+    /// The same in the wide profile; in the strict one it isn't followed, for this reason, with what to do in place of it.
+    Wide(&'static str, &'static str, &'static str),
     /// It isn't followed, for this reason, with what to do in place of it.
     Refused(&'static str),
 }
@@ -49,6 +51,12 @@ const TELLING: &str = "What is told";
 
 /// How what recipes write is held together where -O doesn't say it (GNU make).
 pub const HELD: &str = "target";
+
+/// How the option is looked for by which recipes begin while the machine isn't too busy.
+pub const LOAD: &str = "-l (--load-average)";
+
+/// What stands for its value where it has none: no load is too high.
+pub const UNBOUND: &str = "none";
 
 static OPTIONS: [Row; 33] = [
     Row {
@@ -125,7 +133,7 @@ static OPTIONS: [Row; 33] = [
         takes: Takes::Workers,
         role: Role::Told(
             RUNNING,
-            "Run up to N recipes at once, 1 to 256; without N as many\nas there are processors; by default 2, with --posix 1",
+            "Run up to N recipes at once, 1 to 256; without N\nas many as there are processors; by default 2, and\n1 with --posix",
         ),
     },
     Row {
@@ -135,7 +143,7 @@ static OPTIONS: [Row; 33] = [
         takes: Takes::Nothing,
         role: Role::Told(
             RUNNING,
-            "With --posix, once: where nothing is recorded take\ntargets as they are whose files are up to date by their\ntimes",
+            "With --posix, once: where nothing is recorded take\ntargets as they are whose files are up to date by\ntheir times",
         ),
     },
     Row {
@@ -152,7 +160,7 @@ static OPTIONS: [Row; 33] = [
         takes: Takes::NothingAfter("goes_on"),
         role: Role::Told(
             RUNNING,
-            "Begin nothing more behind a failed target, as without -k;\nthe last one counts",
+            "Begin nothing more behind a failed target, as\nwithout -k; the last one counts",
         ),
     },
     Row {
@@ -267,11 +275,13 @@ static OPTIONS: [Row; 33] = [
         ),
     },
     Row {
-        id: "-l (--load-average)",
+        id: LOAD,
         letter: Some('l'),
         words: &["load-average", "max-load"],
-        takes: Takes::Perhaps("N", ""),
-        role: Role::Refused(
+        takes: Takes::Perhaps("N", UNBOUND),
+        role: Role::Wide(
+            RUNNING,
+            "With --posix, begin no further recipe beside others\nwhile the load is N or above; without N\nwhatever it is",
             "how busy the machine is isn't looked at; -j N bounds how many recipes run",
         ),
     },

@@ -5,6 +5,7 @@ use crate::environment::given_in;
 use crate::output::Output;
 use bd_lists::Variable;
 use dmk_reading::Options;
+use jb_flags::Load;
 use mk_profile::Profile;
 use std::alloc::AllocError;
 use std::io;
@@ -39,6 +40,8 @@ pub struct Later {
     pub has_jobs: bool,
     /// How the words or MAKEFLAGS have what recipes write held together.
     pub output: Option<Output>,
+    /// From which load on they have no further recipe begin beside others.
+    pub most_load: Option<Load>,
     /// The words or MAKEFLAGS say that no folder is told.
     pub hides_folder: bool,
     /// They say that it is.
@@ -77,6 +80,8 @@ pub enum WordsFault {
     Unsupported(&'static str, &'static str),
     #[error("--output takes block, front or through, or GNU make's words none, line, target or recurse")]
     OtherOutput,
+    #[error("-l takes a load, as 2 or 2.5")]
+    OtherLoad,
     #[error("--trust-files needs --posix")]
     TrustInStrict,
     #[error("--trust-files doesn't go with -n or -q, which record nothing")]
