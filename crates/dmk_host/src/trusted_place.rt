@@ -3,8 +3,8 @@
 use crate::standard_streams::tell_fault;
 use jb_host::HostPlace;
 use jb_marks::{Sight, Sights};
-use jb_recipe::{Place, PlaceFault, Stopped};
-use std::alloc::Global;
+use jb_recipe::{Place, PlaceFault, Stopped, Turn};
+use std::alloc::{AllocError, Global};
 use std::sync::Wait;
 use std::{fmt, io};
 
@@ -64,6 +64,14 @@ impl<R: Wait> Sights for TrustedPlace<'_, R> {
 
 impl<R: Wait> Place for TrustedPlace<'_, R> {
     ghost gone = { λ place path. Unit {0} };
+
+    fn enter(&self, turn: Turn) -> Result<bool, AllocError> {
+        self.place.enter(turn)
+    }
+
+    fn leave(&self, turn: Turn) {
+        self.place.leave(turn);
+    }
 
     fn remove(&self, path: &[u8]) -> io::Result<()> {
         self.place.remove(path)

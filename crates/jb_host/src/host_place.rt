@@ -4,7 +4,9 @@ use crate::shared_syncs::SharedSyncs;
 use crate::shell::set_text;
 use crate::sights::last_tick;
 use crate::stops::Stops;
-use jb_recipe::{Place, PlaceFault, Stopped};
+use jb_janitor::Janitor;
+use jb_recipe::{Place, PlaceFault, Stopped, Turn};
+use jb_turns::Turns;
 use std::alloc::{AllocError, Global};
 use std::fs::{self, File, Metadata, OpenOptions};
 use std::io::{self, ErrorKind};
@@ -156,19 +158,31 @@ fn sync_all_files(host: HostRuntime) -> io::Result<()> {
 /// Reports and targets in the folder in which dmk runs. A name that isn't UTF-8 has no file here.
 #[derive(Drop)]
 pub struct HostPlace<'a, R: Wait> {
+    rt: &'a R,
     pub(crate) host: HostRuntime,
     folders: SharedSyncs<'a, R>,
     stops: &'a Stops<'a, R>,
+    turns: &'a Turns,
+    janitor: &'a Janitor<'a, R>,
     /// What the clock said when the run began.
     pub(crate) began: i128,
 }
 
 impl<'a, R: Wait> HostPlace<'a, R> {
-    pub fn new(rt: &'a R, host: HostRuntime, stops: &'a Stops<'a, R>) -> HostPlace<'a, R> {
+    pub fn new(
+        rt: &'a R,
+        host: HostRuntime,
+        stops: &'a Stops<'a, R>,
+        turns: &'a Turns,
+        janitor: &'a Janitor<'a, R>,
+    ) -> HostPlace<'a, R> {
         HostPlace {
+            rt,
             host,
             folders: SharedSyncs::new(rt, host.alloc()),
             stops,
+            turns,
+            janitor,
             began: last_tick(),
         }
     }
@@ -248,6 +262,14 @@ impl<'a, R: Wait> HostPlace<'a, R> {
 impl<R: Wait> Place for HostPlace<'_, R> {
     ghost gone = { λ place path. Unit {0} };
 
+    fn enter(&self, turn: Turn) -> Result<bool, AllocError> {
+        self.turns.enter(self.rt, turn)
+    }
+
+    fn leave(&self, turn: Turn) {
+        self.turns.leave(self.rt, turn);
+    }
+
     fn remove(&self, path: &[u8]) -> io::Result<()> {
         let Ok(name) = std::str::from_utf8(path) else {
             return Ok(());
@@ -282,6 +304,14 @@ impl<R: Wait> Place for HostPlace<'_, R> {
             return None;
         }
         Some(i128::from(found.mtime()) * 1_000_000_000 + i128::from(found.mtime_nsec()))
+    }
+
+    fn begins(&self, target: &[u8], goes: bool) {
+        self.janitor.begin(target, goes);
+    }
+
+    fn ends(&self) {
+        self.janitor.end();
     }
 
     // Two ticks: files may be stamped finer than this clock ticks (Linux 6.13), and a tick that comes late is behind by as much as one.

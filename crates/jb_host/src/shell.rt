@@ -6,11 +6,13 @@ ghost use Rattle.jb_host.specs.Shell.{started};
 
 use crate::heard::status_heard;
 use crate::hears::Hears;
+use crate::sharing::Sharing;
 use crate::stops::Stops;
 use crate::surroundings::Surroundings;
 use crate::writes::Writes;
 use bd_lists::{Clearance, Ended, Exec, ExecFault, Variable};
 use byte_strings::{ByteString, next_word};
+use jb_janitor::{Janitor, RECIPES};
 use jb_recipe::{Signal, Stopped};
 use mk_recipe::Line;
 use std::alloc::{AllocError, Global};
@@ -60,8 +62,8 @@ impl BeforeLines {
     }
 }
 
-/// Runs each line as `/bin/sh -c TEXT`, or by the shell that the makefile names, with empty standard input, in dmk's own
-/// environment and the recipe's variables. What it writes is collected, unless it is heard as it comes or shares dmk's own streams.
+/// Runs each line as `/bin/sh -c TEXT`, or by the shell that the makefile names, with empty standard input unless it has the
+/// terminal alone, in dmk's own environment and the recipe's variables. What it writes is collected, unless it is heard as it comes or shares dmk's own streams.
 /// Nothing is claimed of the shell.
 #[derive(Drop)]
 pub struct Shell<'a, R: Wait, H> {
@@ -71,7 +73,8 @@ pub struct Shell<'a, R: Wait, H> {
     /// Read when the first line is run; None where lines inherit dmk's own environment as it is.
     surroundings: OnceLock<Option<Surroundings>>,
     stops: &'a Stops<'a, R>,
-    writes: Writes,
+    janitor: &'a Janitor<'a, R>,
+    sharing: Sharing<'a>,
     hears: &'a H,
 }
 
@@ -211,7 +214,8 @@ impl<'a, R: Wait, H: Hears> Shell<'a, R, H> {
         alloc: Global,
         before: &'a BeforeLines,
         stops: &'a Stops<'a, R>,
-        writes: Writes,
+        janitor: &'a Janitor<'a, R>,
+        sharing: Sharing<'a>,
         hears: &'a H,
     ) -> Shell<'a, R, H> {
         Shell {
@@ -220,7 +224,8 @@ impl<'a, R: Wait, H: Hears> Shell<'a, R, H> {
             before,
             surroundings: OnceLock::new(),
             stops,
-            writes,
+            janitor,
+            sharing,
             hears,
         }
     }
@@ -253,26 +258,35 @@ impl<'a, R: Wait, H: Hears> Shell<'a, R, H> {
             surroundings.hand_to(command)?;
         }
         set_variables(command, env)?;
+        if let Some(recipes) = self.janitor.recipes() {
+            command.env(RECIPES, recipes.as_str())?;
+        }
         self.hand_on(command)
     }
 
-    // A line that goes on behind a killed run keeps the lock by its standard input, so that the next run waits for it.
+    // A line that goes on behind a killed run keeps the lock by its standard input, so that the next run waits for it. One that has the
+    // terminal doesn't.
     fn hand_on(&self, command: &mut Command) -> Result<(), NoCommand> {
-        match self.before.held.get() {
-            Some(held) => {
-                command.stdin(Stdio::from(held.file.try_clone()?));
-                command.env(HOLDS, held.names.as_str())?;
-            }
-            None => {
-                command.stdin(Stdio::null());
-            }
+        if let Some(held) = self.before.held.get() {
+            command.env(HOLDS, held.names.as_str())?;
         }
+        command.stdin(self.input()?);
         Ok(())
+    }
+
+    fn input(&self) -> io::Result<Stdio> {
+        if self.sharing.turns.is_alone() {
+            return Ok(Stdio::inherit());
+        }
+        match self.before.held.get() {
+            Some(held) => Ok(Stdio::from(held.file.try_clone()?)),
+            None => Ok(Stdio::null()),
+        }
     }
 
     // What isn't set is collected.
     fn set_output(&self, command: &mut Command, line: &Line) {
-        if self.writes.shares(line) {
+        if self.sharing.shares(line) {
             command.stdout(Stdio::from(self.rt.stdout()));
             command.stderr(Stdio::from(self.rt.stderr()));
         }
@@ -280,7 +294,7 @@ impl<'a, R: Wait, H: Hears> Shell<'a, R, H> {
 
     // Whether what a line writes is heard, and then under which number.
     fn number(&self, line: &Line) -> Option<u64> {
-        if self.writes != Writes::Heard || self.writes.shares(line) {
+        if self.sharing.writes != Writes::Heard || self.sharing.shares(line) {
             return None;
         }
         self.hears.number()

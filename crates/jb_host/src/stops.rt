@@ -1,8 +1,8 @@
 //! Why the lines that workers run last were stopped or not started: the shell notes it, and who records the end of the recipe asks.
 
+use jb_janitor::worker_name;
 use jb_recipe::Stopped;
 use std::alloc::Global;
-use std::fs;
 use std::sync::{Mutex, Wait};
 
 /// What one worker's last line came to.
@@ -19,14 +19,6 @@ pub struct Stops<'a, R: Wait> {
     rt: &'a R,
     host: HostRuntime,
     noted: Mutex<Vec<Stop>>,
-}
-
-/// The thread of a worker, as the system names it; None where it doesn't tell.
-pub fn worker_name(host: HostRuntime) -> Option<String> {
-    match fs::read_link(&host, "/proc/thread-self") {
-        Ok(path) => Some(path.into_string()),
-        Err(_) => None,
-    }
 }
 
 impl<'a, R: Wait> Stops<'a, R> {

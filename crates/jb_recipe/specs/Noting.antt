@@ -3,7 +3,7 @@ use Rattle.std.specs.Prelude.{◌≡◌, ◌⊎◌, ℕ, Bool, ◌&&◌, not, is
 use Rattle.mk_graph.specs.Edges.{row}
 use Rattle.mk_graph.specs.Numbering.{name_at}
 use Rattle.mk_rule_lines.specs.Explicit.{is_phony}
-use Rattle.mk_rule_lines.specs.Marks.{has_mark}
+use Rattle.mk_settings.specs.Marks.{has_mark}
 use Rattle.mk_nodes.specs.declared.graph.Graph.{Graph}
 use Rattle.mk_recipe.specs.declared.line_status.Outcome.{Outcome}
 use Rattle.mk_recipe.specs.declared.line_status.Outcome.TheVariants as outcomes

@@ -28,6 +28,8 @@ pub struct Conduct {
     /// The definitions of the command line, as they were written.
     pub definitions: Vec<Variable>,
     pub makeflags: Makeflags,
+    /// How many recipes may be run at once.
+    pub at_once: usize,
     /// The state file's name: reports stand beside it.
     pub state_name: ByteString,
 }
@@ -44,6 +46,7 @@ impl Drop for Conduct {
             telling: _,
             definitions: _,
             makeflags: _,
+            at_once: _,
             state_name: _,
         } = self;
     }

@@ -21,6 +21,7 @@ mod seen;
 mod silence;
 mod stopped;
 mod too_long;
+mod turn;
 mod variables;
 
 pub use conduct::Conduct;
@@ -36,4 +37,5 @@ pub use say::{News, Say, Step};
 pub use seen::text_seen;
 pub use stopped::{Signal, Stopped};
 pub use too_long::long_line;
+pub use turn::{Turn, turn_of};
 pub use variables::{Makeflags, environment};

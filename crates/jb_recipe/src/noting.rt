@@ -3,7 +3,7 @@ ghost use Rattle.std.specs.Prelude.{◌≡◌, ◌≤◌, ◌<◌, ◌↔◌, �
 ghost use Rattle.std.proofs.Props.{props};
 ghost use Rattle.mk_graph.specs.Numbering.{name_at};
 ghost use Rattle.mk_recipe.specs.Line.{Records};
-ghost use Rattle.mk_rule_lines.specs.Marks.{has_mark};
+ghost use Rattle.mk_settings.specs.Marks.{has_mark};
 ghost use Rattle.mk_seen.specs.Marks.{source_name};
 ghost use Rattle.mk_seen.specs.Nodes.{explicit_of, made_beside};
 ghost use Rattle.mk_plan.specs.Parts.{language_of};

@@ -1,7 +1,7 @@
 //! The files of targets, beside what recipes do to them.
 ghost use Rattle.std.specs.Prelude.{ℕ, List, OnOk};
 
-use crate::Stopped;
+use crate::{Stopped, Turn};
 use jb_marks::Sights;
 use std::alloc::{AllocError, Global};
 use std::io;
@@ -34,6 +34,13 @@ pub trait Place: Sights {
     /// Nothing is left under this name: a fact that only a call of `remove` gives.
     ghost gone: { Self → List ℕ → Type 0 };
 
+    /// Waits until a recipe may be run so, and tells whether it had to. From then on it counts as one that runs, until it leaves. Where
+    /// memory is wanted it doesn't.
+    fn enter(&self, turn: Turn) -> Result<bool, AllocError>;
+
+    /// A recipe that entered so has ended.
+    fn leave(&self, turn: Turn);
+
     /// Removes a report, or a target's file. One that isn't there is passed over; a folder can't be removed.
     fn remove(&self, path: &[u8]) -> io::Result<()>
         ensures { OnOk result (gone self.now path.now) };
@@ -46,6 +53,13 @@ pub trait Place: Sights {
 
     /// When a target's file was last changed, in nanoseconds since 1970; None where there is no ordinary file.
     fn stamp(&self, target: &[u8]) -> Option<i128>;
+
+    /// A recipe of this target begins, whose lines this thread runs. Where `goes`, the target's file is to be removed if the run is stopped
+    /// from outside before the recipe has ended and has changed it.
+    fn begins(&self, _target: &[u8], _goes: bool) {}
+
+    /// The recipe whose lines this thread runs has ended.
+    fn ends(&self) {}
 
     /// Waits, some milliseconds at most, until the clock by which files are stamped has passed what was this tick a moment ago: what is
     /// changed behind that is told from what was changed before.

@@ -31,6 +31,8 @@ pub struct Spoken<'a, E, S> {
     pub target: &'a [u8],
     /// It is told which line failed.
     pub tells_failed: bool,
+    /// The target's file goes if the run is stopped from outside meanwhile.
+    pub goes: bool,
 }
 
 impl<T, E: Exec<T>, S: Say> Exec<T> for Spoken<'_, E, S> {
@@ -77,7 +79,9 @@ pub fn run_recipe<E: Exec<Receipt>, S: Say, P: Place>(
     };
     let told = lines_told(alloc, spoken.tells_failed, &recipe.lines);
     spoken.say.step(Step::Begins(spoken.target));
+    place.begins(spoken.target, spoken.goes);
     let spent = clearance.run(alloc, recipe, spoken, &mut ended);
+    place.ends();
     let outcome = spent.outcome();
     spoken.say.step(Step::Ends(spoken.target, outcome));
     let failed = failed_line(told, &ended, outcome);
