@@ -1,6 +1,7 @@
 //! make with a state that remembers what each recipe was, and whether it ended.
 #![tactic(auto)]
 
+mod duty;
 mod making;
 mod state_lock;
 

@@ -3,6 +3,7 @@ ghost use Rattle.std.specs.Prelude.{codes};
 ghost use Rattle.dmk_reading.specs.Keeping.{value_in};
 ghost use Rattle.dmk_reading.specs.Asked.{AsksToRun};
 
+use crate::duty::duty_of;
 use crate::state_lock::{LockPlace, StateLock};
 use bd_flusher::Receipt;
 use bd_lists::{Exec, Variable};
@@ -12,26 +13,56 @@ use dmk_host::{
     needs_usual_makefile, print_gnu_makefile, print_notes, print_reasons, reports_path,
     status_columns, streams_are_one, with_patience,
 };
+use dmk_locks::wait_for_janitors;
 use dmk_printing::{Front, Lending, Printer, followed};
 use dmk_reading::{Options, value_of};
-use dmk_run::{Looks, Means, build_targets};
-use dmk_store::Guard;
+use dmk_run::{Means, build_targets};
+use dmk_store::{Looks, Machine};
 use dmk_trust::trust_files;
 use dmk_words::{Later, handed_on};
 use jb_flags::{Handed, Handing};
-use jb_host::{BeforeLines, Hears, HostPlace, Shell, Stops, Writes};
-use jb_recipe::Place;
-use jb_slots::{Banks, FifoBanks};
-use mk_eval::Includes;
-use mk_rules::Tree;
+use jb_host::{BeforeLines, Hears, HostPlace, Sharing, Shell, Stops, Writes};
+use jb_janitor::Janitor;
+use jb_recipe::{Place, Say};
+use jb_slots::{FifoBank, FifoBanks};
+use jb_turns::Turns;
 use st_disk::{Disk, FileDisk, SystemFolder};
 use st_records::HashKey;
 use std::alloc::{AllocError, Global};
-use std::io::{BufWriter, Stderr, Stdout, Write};
+use std::io::{BufWriter, Stderr, Stdout};
 use std::sync::Wait;
 use std::thread::Threads;
 
 type HostPrinter<'a, R> = Printer<'a, R, BufWriter<Patient<Stdout>>, BufWriter<Patient<Stderr>>>;
+
+/// This machine, by the types of its parts. No value is made of it.
+struct HostMachine<'r, 'f, 'l, R: Wait> {
+    place: HostPlace<'r, R>,
+    files: HostFiles<'f>,
+    lock: StateLock<'l>,
+}
+
+impl<'r, 'f, 'l, R: Threads + Wait + Sync> Machine for HostMachine<'r, 'f, 'l, R> {
+    type Runtime = R;
+
+    type Out = BufWriter<Patient<Stdout>>;
+
+    type Err = BufWriter<Patient<Stderr>>;
+
+    type Place = HostPlace<'r, R>;
+
+    type Tree = FileTree<HostFiles<'f>>;
+
+    type Looks = HostLooks;
+
+    type Includes = FileTexts<HostFiles<'f>>;
+
+    type Guard = StateLock<'l>;
+
+    type End = FifoBank;
+
+    type Banks = FifoBanks;
+}
 
 /// What a run has of this machine, found before a makefile is made of anything.
 #[derive(Drop)]
@@ -72,6 +103,7 @@ fn writes_of(options: &Options, later: Later) -> Writes {
 fn host_printer<'a, R: Wait>(
     rt: &'a R,
     host: HostRuntime,
+    turns: &'a Turns,
     environment: &[Variable],
     is_silent: bool,
     writes: Writes,
@@ -85,6 +117,7 @@ fn host_printer<'a, R: Wait>(
     Ok(Printer::new(
         rt,
         alloc,
+        turns,
         buffered(alloc, with_patience(host, host.stdout()))?,
         buffered(alloc, with_patience(host, host.stderr()))?,
         status_columns(host, environment, has_none),
@@ -95,6 +128,7 @@ fn host_printer<'a, R: Wait>(
 fn outfit_of<'a, R: Wait>(
     rt: &'a R,
     host: HostRuntime,
+    turns: &'a Turns,
     options: &Options,
     later: Later,
     environment: &[Variable],
@@ -109,7 +143,7 @@ fn outfit_of<'a, R: Wait>(
     let reports = reports_path(host, options.profile, state)?;
     let pool = PoolPath::new(host, state, flags, usize::from(options.workers))?;
     let writes = writes_of(options, later);
-    let printer = host_printer(rt, host, environment, options.is_silent, writes)?;
+    let printer = host_printer(rt, host, turns, environment, options.is_silent, writes)?;
     Ok(Outfit {
         folder,
         reports,
@@ -123,36 +157,23 @@ fn outfit_of<'a, R: Wait>(
 
 /// Makes the targets, and answers the status. The printer's streams are lent to lines that write on them, so that nothing is
 /// printed beside what they write.
-fn make_lending<R, T, L, I, E, O, W, P, G, K, D>(
-    rt: &R,
+fn make_lending<'m, M: Machine, E: Exec<Receipt> + Sync, D: Disk + Drop + Send>(
+    rt: &M::Runtime,
     alloc: Global,
-    means: &Means<'_, E, Printer<'_, R, O, W>, P>,
-    writes: Writes,
-    guard: &mut G,
+    means: &Means<'m, E, Printer<'_, M::Runtime, M::Out, M::Err>, M::Place>,
+    sharing: Sharing<'m>,
+    guard: &mut M::Guard,
     options: Options,
-    looks: &L,
-    makefiles: &mut I,
-    banks: &mut K,
+    looks: &M::Looks,
+    makefiles: &mut M::Includes,
+    banks: &mut M::Banks,
     disk: D,
 ) -> (u8, D)
-where
-    R: Threads + Wait + Sync,
-    T: Tree + Drop,
-    L: Looks<T>,
-    I: Includes,
-    E: Exec<Receipt> + Sync,
-    O: Write + Drop + Send,
-    W: Write + Drop + Send,
-    P: Place + Sync,
-    G: Guard,
-    K: Banks,
-    K::End: Drop + Send,
-    D: Disk + Drop + Send,
     requires { AsksToRun options (value_in means.now.environment.now (codes "MAKEFLAGS")) }
 {
     let lending = Lending {
         printer: means.say,
-        writes,
+        sharing,
         exec: means.exec,
     };
     let means = Means {
@@ -165,38 +186,25 @@ where
         place: means.place,
         shell: means.shell,
     };
-    build_targets(
+    build_targets::<M, Lending<'_, M::Runtime, M::Out, M::Err, E>, D>(
         rt, alloc, &means, guard, options, looks, makefiles, banks, disk,
     )
 }
 
 /// Makes the targets, and answers the status. Lines are told what is handed on, where something is.
-fn make_handing<'m, R, T, L, I, E, O, W, P, G, K, D>(
-    rt: &R,
+fn make_handing<'m, M: Machine, E: Exec<Receipt> + Sync, D: Disk + Drop + Send>(
+    rt: &M::Runtime,
     alloc: Global,
-    means: &Means<'m, E, Printer<'_, R, O, W>, P>,
+    means: &Means<'m, E, Printer<'_, M::Runtime, M::Out, M::Err>, M::Place>,
     handed: Option<&'m Handed>,
-    writes: Writes,
-    guard: &mut G,
+    sharing: Sharing<'m>,
+    guard: &mut M::Guard,
     options: Options,
-    looks: &L,
-    makefiles: &mut I,
-    banks: &mut K,
+    looks: &M::Looks,
+    makefiles: &mut M::Includes,
+    banks: &mut M::Banks,
     disk: D,
 ) -> (u8, D)
-where
-    R: Threads + Wait + Sync,
-    T: Tree + Drop,
-    L: Looks<T>,
-    I: Includes,
-    E: Exec<Receipt> + Sync,
-    O: Write + Drop + Send,
-    W: Write + Drop + Send,
-    P: Place + Sync,
-    G: Guard,
-    K: Banks,
-    K::End: Drop + Send,
-    D: Disk + Drop + Send,
     requires { AsksToRun options (value_in means.now.environment.now (codes "MAKEFLAGS")) }
 {
     let handing = Handing {
@@ -215,48 +223,34 @@ where
         place: means.place,
         shell: means.shell,
     };
-    make_lending(
-        rt, alloc, &means, writes, guard, options, looks, makefiles, banks, disk,
+    make_lending::<M, Handing<'_, E>, D>(
+        rt, alloc, &means, sharing, guard, options, looks, makefiles, banks, disk,
     )
 }
 
 /// Takes targets as they are where their files are trusted, makes the targets, and answers the status. The state's disk comes back.
 ///
 /// The parts of this machine are of any types here: made concrete once, at the call.
-fn make_over<'m, R, T, L, I, E, O, W, P, Q, G, K, D>(
-    rt: &R,
+fn make_over<'m, M: Machine, E: Exec<Receipt> + Sync, Q: Place, D: Disk + Drop + Send>(
+    rt: &M::Runtime,
     alloc: Global,
-    means: &Means<'m, E, Printer<'_, R, O, W>, P>,
+    means: &Means<'m, E, Printer<'_, M::Runtime, M::Out, M::Err>, M::Place>,
     handed: Option<&'m Handed>,
-    writes: Writes,
-    guard: &mut G,
+    sharing: Sharing<'m>,
+    guard: &mut M::Guard,
     options: Options,
     trusted: Option<&Q>,
-    looks: &L,
-    makefiles: &mut I,
-    banks: &mut K,
+    looks: &M::Looks,
+    makefiles: &mut M::Includes,
+    banks: &mut M::Banks,
     disk: D,
 ) -> (u8, D)
-where
-    R: Threads + Wait + Sync,
-    T: Tree + Drop,
-    L: Looks<T>,
-    I: Includes,
-    E: Exec<Receipt> + Sync,
-    O: Write + Drop + Send,
-    W: Write + Drop + Send,
-    P: Place + Sync,
-    Q: Place,
-    G: Guard,
-    K: Banks,
-    K::End: Drop + Send,
-    D: Disk + Drop + Send,
     requires { AsksToRun options (value_in means.now.environment.now (codes "MAKEFLAGS")) }
 {
     let mut disk = disk;
     if let Some(place) = trusted {
         let mut tree = looks.anew();
-        let (found, same) = trust_files(
+        let (found, same) = trust_files::<M, Q, D>(
             alloc,
             means.key,
             means.environment,
@@ -280,49 +274,36 @@ where
         ||
             requires { AsksToRun options (value_in means.now.environment.now (codes "MAKEFLAGS")) }
         {
-            make_handing(
-                rt, alloc, means, handed, writes, guard, options, looks, makefiles, banks, disk,
+            make_handing::<M, E, D>(
+                rt, alloc, means, handed, sharing, guard, options, looks, makefiles, banks, disk,
             )
         },
     )
 }
 
 /// The same, by a shell whose lines somebody hears: the means have none yet.
-fn make_by_shell<'m, R, T, L, I, H, X, O, W, P, Q, G, K, D>(
-    rt: &R,
+fn make_by_shell<'m, M: Machine, H: Hears + Sync, X, Q: Place, D: Disk + Drop + Send>(
+    rt: &M::Runtime,
     host: HostRuntime,
     before: &'m BeforeLines,
-    stops: &'m Stops<'m, R>,
+    stops: &'m Stops<'m, M::Runtime>,
+    janitor: &'m Janitor<'m, M::Runtime>,
     hears: &'m H,
-    means: &Means<'m, X, Printer<'_, R, O, W>, P>,
+    means: &Means<'m, X, Printer<'_, M::Runtime, M::Out, M::Err>, M::Place>,
     handed: Option<&'m Handed>,
-    writes: Writes,
-    guard: &mut G,
+    sharing: Sharing<'m>,
+    guard: &mut M::Guard,
     options: Options,
     trusted: Option<&Q>,
-    looks: &L,
-    makefiles: &mut I,
-    banks: &mut K,
+    looks: &M::Looks,
+    makefiles: &mut M::Includes,
+    banks: &mut M::Banks,
     disk: D,
 ) -> (u8, D)
-where
-    R: Threads + Wait + Sync,
-    T: Tree + Drop,
-    L: Looks<T>,
-    I: Includes,
-    H: Hears + Sync,
-    O: Write + Drop + Send,
-    W: Write + Drop + Send,
-    P: Place + Sync,
-    Q: Place,
-    G: Guard,
-    K: Banks,
-    K::End: Drop + Send,
-    D: Disk + Drop + Send,
     requires { AsksToRun options (value_in means.now.environment.now (codes "MAKEFLAGS")) }
 {
     let alloc = host.alloc();
-    let shell = Shell::new(host, alloc, before, stops, writes, hears);
+    let shell = Shell::new(host, alloc, before, stops, janitor, sharing, hears);
     let means = Means {
         key: means.key,
         environment: means.environment,
@@ -333,8 +314,8 @@ where
         place: means.place,
         shell: means.shell,
     };
-    make_over(
-        rt, alloc, &means, handed, writes, guard, options, trusted, looks, makefiles, banks, disk,
+    make_over::<M, Shell<'_, M::Runtime, H>, Q, D>(
+        rt, alloc, &means, handed, sharing, guard, options, trusted, looks, makefiles, banks, disk,
     )
 }
 
@@ -350,6 +331,8 @@ fn make_with<'a, R: Threads + Wait + Sync>(
     outfit: Outfit<'_, R>,
     before: &'a BeforeLines,
     stops: &'a Stops<'a, R>,
+    turns: &'a Turns,
+    janitor: &'a Janitor<'a, R>,
 ) -> u8
     requires { AsksToRun options (value_in environment.now (codes "MAKEFLAGS")) }
 {
@@ -365,7 +348,7 @@ fn make_with<'a, R: Threads + Wait + Sync>(
     let alloc = host.alloc();
     let is_usual = needs_usual_makefile(&options);
     let mut guard = StateLock::new(host, lock, &before.held);
-    let place = HostPlace::new(rt, host, stops);
+    let place = HostPlace::new(rt, host, stops, turns, janitor);
     let trusted = TrustedPlace {
         host,
         place: &place,
@@ -382,15 +365,22 @@ fn make_with<'a, R: Threads + Wait + Sync>(
     };
     let looks = HostLooks { host };
     let mut banks = FifoBanks::new(host, "mkfifo");
-    let (status, disk) = make_by_shell(
+    let (status, disk) = make_by_shell::<
+        HostMachine<'_, '_, '_, R>,
+        HostPrinter<'_, R>,
+        (),
+        TrustedPlace<'_, R>,
+        FileDisk<SystemFolder>,
+    >(
         rt,
         host,
         before,
         stops,
+        janitor,
         &printer,
         &means,
         handed.as_ref(),
-        writes,
+        Sharing { writes, turns },
         &mut guard,
         options,
         trusts_files.then_some(&trusted),
@@ -399,6 +389,7 @@ fn make_with<'a, R: Threads + Wait + Sync>(
         &mut banks,
         FileDisk::new(folder),
     );
+    janitor.close();
     pool.release();
     let (_out, mut err) = printer.into_streams();
     print_notes(alloc, &mut err, makefiles);
@@ -418,15 +409,21 @@ pub fn make<R: Threads + Wait + Sync>(
 ) -> Result<u8, AllocError>
     requires { AsksToRun options (value_in environment.now (codes "MAKEFLAGS")) }
 {
+    if options.profile.is_wide() {
+        wait_for_janitors(host, options.state.as_str())?;
+    }
     let env = beside_recipes(host, &options, later, environment)?;
     let mut makefiles = HostFiles::texts(host, options.profile, input, &env);
     makefiles.define(options.profile, &options.definitions);
     makefiles.define(options.profile, environment);
     let base = base_asked(host, &options, environment, &mut makefiles)?;
-    let outfit = outfit_of(rt, host, &options, later, environment)?;
+    let turns = Turns::new(host, host.alloc(), later.most_load);
+    let outfit = outfit_of(rt, host, &turns, &options, later, environment)?;
     outfit.printer.text(&base);
     let before = BeforeLines::new();
     let stops = Stops::new(rt, host);
+    let duty = duty_of(host, &options, environment, outfit.printer.is_followed())?;
+    let janitor = Janitor::new(rt, host, duty);
     Ok(make_with(
         rt,
         host,
@@ -437,5 +434,7 @@ pub fn make<R: Threads + Wait + Sync>(
         outfit,
         &before,
         &stops,
+        &turns,
+        &janitor,
     ))
 }

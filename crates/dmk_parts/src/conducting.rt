@@ -1,7 +1,8 @@
 //! How a run goes, by the words of the command line and the makefile.
 
-ghost use Rattle.std.specs.Prelude.{◌≡◌, ◌||◌, if◌then◌else◌, IfOk};
+ghost use Rattle.std.specs.Prelude.{◌≡◌, ◌||◌, nat_le, if◌then◌else◌, IfOk};
 ghost use Rattle.dmk_reading.specs.Lost.{goes_without};
+ghost use Rattle.mk_settings.specs.Pools.{waiting_for};
 ghost use Rattle.jb_recipe.specs.declared.variables.Makeflags.TheVariants as flags;
 
 use bd_lists::Variable;
@@ -10,7 +11,7 @@ use dmk_reading::goes_without;
 use jb_recipe::{Conduct, Makeflags};
 use mk_plan::Telling;
 use mk_profile::Profile;
-use mk_rule_lines::Settings;
+use mk_settings::Settings;
 use st_records::Form;
 use std::alloc::{AllocError, Global};
 
@@ -29,6 +30,17 @@ pub struct Wishes<'a> {
     pub makes_all: bool,
     /// How much is told of why targets are made.
     pub telling: Telling,
+}
+
+/// How many workers there are beside so many, which wait for a place in a pool: one alone makes nodes in order, and needs none.
+pub fn waiting_beside(workers: usize, settings: &Settings) -> usize
+    ensures { result ≡ (if nat_le workers 1 then 0 else waiting_for settings.now.pools) }
+{
+    if workers <= 1 {
+        0
+    } else {
+        settings.pools.waiting()
+    }
 }
 
 impl Wishes<'_> {
@@ -50,7 +62,7 @@ impl Wishes<'_> {
         goes_without(profile, self.goes_on)
     }
 
-    /// How the run goes. What recipes get of MAKEFLAGS is said when the job slots are known.
+    /// How the run goes. What recipes get of MAKEFLAGS, and how many are run at once, is said when the job slots are known.
     pub(crate) fn conduct(
         &self,
         alloc: Global,
@@ -78,6 +90,7 @@ impl Wishes<'_> {
             telling: self.telling,
             definitions,
             makeflags: Makeflags::Removed,
+            at_once: 1,
             state_name: ByteString::from_slice(alloc, self.reports)?,
         })
     }

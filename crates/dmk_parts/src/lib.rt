@@ -13,7 +13,7 @@ mod refusing;
 mod tried;
 mod unmade;
 
-pub use conducting::Wishes;
+pub use conducting::{Wishes, waiting_beside};
 pub use left::{Left, Standing};
 pub use made::{Made, failed_in, filed_in, made_in};
 pub use parting::{has_file, to_make};

@@ -2,7 +2,8 @@
 
 use crate::queue::{Due, Queue};
 use crate::streams::Streams;
-use jb_host::{Stream, worker_name};
+use jb_host::Stream;
+use jb_janitor::worker_name;
 use std::alloc::Global;
 use std::io::Write;
 use std::sync::{Mutex, Wait};
@@ -85,5 +86,19 @@ impl Front {
         let written = self.queue.lock(rt).end(number);
         streams.written(&written.out, &written.err);
         self.print_lines(rt, streams);
+    }
+
+    /// The run is over: all is printed that is kept of recipes whose end nobody told, as where memory was refused for it.
+    pub(crate) fn print_rest<O: Write + Drop, E: Write + Drop>(self, streams: &mut Streams<O, E>) {
+        let Front {
+            host: _,
+            are_one: _,
+            queue,
+        } = self;
+        let (alloc, running) = queue.into_inner().into_running();
+        for mut recipe in running {
+            let written = recipe.take_all(alloc);
+            streams.written(&written.out, &written.err);
+        }
     }
 }

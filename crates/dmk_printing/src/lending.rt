@@ -2,7 +2,7 @@
 
 use crate::printer::Printer;
 use bd_lists::{Clearance, Ended, Exec, ExecFault, Variable};
-use jb_host::Writes;
+use jb_host::Sharing;
 use mk_recipe::Line;
 use std::io::Write;
 use std::sync::Wait;
@@ -11,7 +11,7 @@ use std::sync::Wait;
 #[derive(Drop)]
 pub struct Lending<'a, R: Wait, O: Write + Drop, W: Write + Drop, E> {
     pub printer: &'a Printer<'a, R, O, W>,
-    pub writes: Writes,
+    pub sharing: Sharing<'a>,
     pub exec: &'a E,
 }
 
@@ -24,7 +24,7 @@ impl<T, R: Wait, O: Write + Drop, W: Write + Drop, E: Exec<T>> Exec<T> for Lendi
         line: &Line,
         env: &[Variable],
     ) -> Result<Ended, ExecFault> {
-        if !self.writes.shares(line) {
+        if !self.sharing.shares(line) {
             return self.exec.run(clearance, line, env);
         }
         self.printer.lend();

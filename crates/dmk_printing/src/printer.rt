@@ -13,6 +13,7 @@ use dmk_messages::{Message, print_fault, print_lines, print_note};
 use jb_closing::RunFault;
 use jb_host::{Hears, Stream};
 use jb_recipe::{News, Say, Step};
+use jb_turns::Turns;
 use mk_eval::Includes;
 use mk_rule_lines::Unmade;
 use plain_text::Plain;
@@ -24,6 +25,7 @@ use std::time::Duration;
 /// Prints lines and blocks on one stream, and faults and notes on another. What can't be printed ends no run.
 pub struct Printer<'a, R: Wait, O: Write + Drop, E: Write + Drop> {
     rt: &'a R,
+    turns: &'a Turns,
     streams: Mutex<Streams<O, E>>,
     /// Told once the run is over.
     over: Condvar,
@@ -35,6 +37,7 @@ impl<'a, R: Wait, O: Write + Drop, E: Write + Drop> Drop for Printer<'a, R, O, E
     fn drop(self) {
         let Printer {
             rt: _,
+            turns: _,
             streams: _,
             over: _,
             front: _,
@@ -43,10 +46,11 @@ impl<'a, R: Wait, O: Write + Drop, E: Write + Drop> Drop for Printer<'a, R, O, E
 }
 
 impl<'a, R: Wait, O: Write + Drop, E: Write + Drop> Printer<'a, R, O, E> {
-    /// A status line is drawn on `err` where that is a terminal of so many columns.
+    /// A status line is drawn on `err` where that is a terminal of so many columns, and no recipe has it alone.
     pub fn new(
         rt: &'a R,
         alloc: Global,
+        turns: &'a Turns,
         out: O,
         err: E,
         columns: Option<usize>,
@@ -54,6 +58,7 @@ impl<'a, R: Wait, O: Write + Drop, E: Write + Drop> Printer<'a, R, O, E> {
     ) -> Printer<'a, R, O, E> {
         Printer {
             rt,
+            turns,
             streams: Mutex::new(Streams::new(
                 alloc,
                 out,
@@ -65,15 +70,20 @@ impl<'a, R: Wait, O: Write + Drop, E: Write + Drop> Printer<'a, R, O, E> {
         }
     }
 
-    /// The two streams again.
+    /// The two streams again, behind what is kept of recipes whose end nobody told.
     pub fn into_streams(self) -> (O, E) {
         let Printer {
             rt: _,
+            turns: _,
             streams,
             over: _,
-            front: _,
+            front,
         } = self;
-        streams.into_inner().apart()
+        let mut streams = streams.into_inner();
+        if let Some(front) = front {
+            front.print_rest(&mut streams);
+        }
+        streams.apart()
     }
 
     /// A part of the run has ended, whose recipes came to this.
@@ -281,7 +291,14 @@ impl<R: Wait, O: Write + Drop, E: Write + Drop> Say for Printer<'_, R, O, E> {
         if let Some(front) = &self.front {
             self.follow(front, step);
         }
-        self.streams.lock(self.rt).step(step);
+        let mut streams = self.streams.lock(self.rt);
+        // Between the lines of a recipe that has the terminal alone no status line is drawn either.
+        match step {
+            Step::Begins(_) if self.turns.is_alone() => streams.lend(),
+            Step::Ends(_, _) if self.turns.is_alone() => streams.take_back(),
+            _ => {}
+        }
+        streams.step(step);
     }
 }
 

@@ -26,7 +26,7 @@ impl Written {
 }
 
 /// A recipe that runs.
-struct Running {
+pub(crate) struct Running {
     number: u64,
     /// The thread that runs its lines, as the system names it.
     worker: String,
@@ -55,7 +55,7 @@ impl Running {
         Ok(self.out.has_lines() || self.err.has_lines())
     }
 
-    fn take_all(&mut self, alloc: Global) -> Written {
+    pub(crate) fn take_all(&mut self, alloc: Global) -> Written {
         Written {
             out: self.out.take_all(alloc),
             err: self.err.take_all(alloc),
@@ -166,6 +166,16 @@ impl Queue {
             Some(place) => self.running[place].take_all(self.alloc),
             None => Written::nothing(self.alloc),
         }
+    }
+
+    /// The recipes whose end wasn't told, and where their memory comes from.
+    pub(crate) fn into_running(self) -> (Global, Vec<Running>) {
+        let Queue {
+            alloc,
+            running,
+            begun: _,
+        } = self;
+        (alloc, running)
     }
 
     /// The recipe with this number has ended: all that is kept of it.

@@ -18,23 +18,20 @@ use crate::counting::tell_planned;
 use crate::driver::Means;
 use crate::judging::are_judged;
 use crate::known::are_known_done;
-use bd_flusher::{FlushFault, Receipt, SiteIn};
-use bd_lists::Exec;
+use bd_flusher::{FlushFault, SiteIn};
 use bd_places::End;
-use dmk_parts::with_unmade;
+use dmk_parts::{waiting_beside, with_unmade};
 use dmk_reading::value_of;
 use dmk_store::Stop;
 use jb_closing::{Report, RunFault};
-use jb_recipe::{Conduct, Place, Say};
-use jb_runner::{Parts, Slotting, run_slotted};
+use jb_recipe::Conduct;
+use jb_runner::{Outside, Parts, Slotting, run_slotted};
 use jb_slots::Banks;
 use mk_nodes::Graph;
 use st_disk::Disk;
 use st_recovery::StoreIn;
 use st_state::State;
 use std::alloc::{AllocError, Global};
-use std::sync::Wait;
-use std::thread::Threads;
 
 /// What a run over a store comes to: its report, or the fault that ended it, and the store.
 #[derive(Drop)]
@@ -145,10 +142,10 @@ pub(crate) fn reported(graph: &Graph, found: Result<Report, RunFault>) -> Result
 }
 
 /// Makes what the graph's goals need, with so many workers. A report comes only with a store that isn't dead.
-pub fn build<R, D, E, S, P, K>(
-    rt: &R,
+pub fn build<M: Outside, D: Disk + Drop + Send, K: Banks>(
+    rt: &M::Runtime,
     alloc: Global,
-    means: &Means<'_, E, S, P>,
+    means: &Means<'_, M::Exec, M::Say, M::Place>,
     graph: &Graph,
     conduct: Conduct,
     workers: usize,
@@ -156,12 +153,6 @@ pub fn build<R, D, E, S, P, K>(
     store: StoreIn<D>,
 ) -> Built<D>
 where
-    R: Threads + Wait + Sync,
-    D: Disk + Drop + Send,
-    E: Exec<Receipt> + Sync,
-    S: Say + Sync,
-    P: Place + Sync,
-    K: Banks,
     K::End: Drop + Send,
     // With a report the store isn't dead, so every pair of crash images recovers its state, and each built node is done there.
     ensures alive { IsOk result.found → result.store.log.dead ≡ false }
@@ -206,11 +197,12 @@ where
     let slotting = Slotting {
         makeflags: value_of(means.environment, b"MAKEFLAGS"),
         workers,
+        waiting: waiting_beside(workers, &graph.settings),
         pool: means.pool,
     };
     let counting = conduct.counts_records;
     let keeps_state = conduct.keeps_state;
-    let (found, closed) = run_slotted(rt, alloc, &parts, conduct, site, slotting, banks);
+    let (found, closed) = run_slotted::<M, D, K>(rt, alloc, &parts, conduct, site, slotting, banks);
     told(
         alloc,
         graph,

@@ -21,20 +21,14 @@ use byte_strings::ByteString;
 use dmk_parts::{Goals, Left, Tried, Wishes, planned};
 use dmk_printing::Printer;
 use dmk_reading::{Makefiles, Options, items_of, keeps_state, kept_form};
-use dmk_store::{Guard, Stop, disk_of, hold_state, open_store};
-use jb_recipe::Place;
-use jb_slots::Banks;
-use mk_eval::Includes;
+use dmk_store::{Machine, Stop, disk_of, hold_state, open_store};
 use mk_reader::Item;
-use mk_rules::Tree;
 use st_disk::Disk;
 use st_memory::MemDisk;
 use st_records::HashKey;
 use st_recovery::StoreIn;
 use std::alloc::Global;
-use std::io::Write;
-use std::sync::{OnceLock, Wait};
-use std::thread::Threads;
+use std::sync::OnceLock;
 
 /// What a run is made with, beside its files, its job slots and its disk.
 #[derive(Drop)]
@@ -53,35 +47,25 @@ pub struct Means<'a, E, S, P> {
 }
 
 /// Opens the store of a disk and makes the goals over it. The disk comes back.
-fn run_over<R, T, E, O, W, P, K, D>(
-    rt: &R,
+fn run_over<M: Machine, E: Exec<Receipt> + Sync, D: Disk + Drop + Send>(
+    rt: &M::Runtime,
     alloc: Global,
-    means: &Means<'_, E, Printer<'_, R, O, W>, P>,
+    means: &Means<'_, E, Printer<'_, M::Runtime, M::Out, M::Err>, M::Place>,
     wishes: &Wishes<'_>,
     keeping: bool,
     goals: Goals,
-    tree: &mut T,
-    banks: &mut K,
+    tree: &mut M::Tree,
+    banks: &mut M::Banks,
     items: Vec<Item>,
     disk: D,
 ) -> (Result<u8, Stop>, D, Left)
-where
-    R: Threads + Wait + Sync,
-    T: Tree,
-    E: Exec<Receipt> + Sync,
-    O: Write + Drop + Send,
-    W: Write + Drop + Send,
-    P: Place + Sync,
-    K: Banks,
-    K::End: Drop + Send,
-    D: Disk + Drop + Send,
     ensures status { IfOk result.0 (λ s. s ≤ 2) }
-    ensures makes { IfOk result.0 (λ s. (looks : List ℕ → Option FileLook) → T.allows tree.new looks
+    ensures makes { IfOk result.0 (λ s. (looks : List ℕ → Option FileLook) → M.Tree.allows tree.new looks
         → MakesItems goals.profile goals.definitions.items means.now.environment.now goals.targets wishes.now.makes_all wishes.now.goes_on
         (unwrap_or goals.behind none_tried) looks items.items true keeping D.honest (D.seen disk) s (now (D.moments result.1)) (tried_in result.2)) }
-    ensures looks { (looks : List ℕ → Option FileLook) → T.allows tree.new looks → T.allows tree.old looks }
+    ensures looks { (looks : List ℕ → Option FileLook) → M.Tree.allows tree.new looks → M.Tree.allows tree.old looks }
     ensures parted { IfErr result.0 (λ stop. IsParted stop → RecoversAsBefore (kept_form goals.profile) D.honest (D.seen disk) (D.seen result.1)) }
-    ensures let_go { K.serves banks.old ≡ false → K.serves banks.new ≡ false }
+    ensures let_go { M.Banks.serves banks.old ≡ false → M.Banks.serves banks.new ≡ false }
 {
     let newest = kept_form(goals.profile);
     let StoreIn {
@@ -111,44 +95,33 @@ where
         items,
         state,
     ) {
-        Ok(plan) => make(rt, alloc, means, wishes, is_part, plan, banks, log),
+        Ok(plan) => make::<M, E, D>(rt, alloc, means, wishes, is_part, plan, banks, log),
         Err(stop) => (Err(stop), disk_of(log), Left::nothing(alloc)),
     }
 }
 
 /// Makes the goals over the state's disk, or over one in memory where no state is kept.
-fn run_items<R, T, E, O, W, P, G, K, D>(
-    rt: &R,
+fn run_items<M: Machine, E: Exec<Receipt> + Sync, D: Disk + Drop + Send>(
+    rt: &M::Runtime,
     alloc: Global,
-    means: &Means<'_, E, Printer<'_, R, O, W>, P>,
-    guard: &mut G,
+    means: &Means<'_, E, Printer<'_, M::Runtime, M::Out, M::Err>, M::Place>,
+    guard: &mut M::Guard,
     wishes: &Wishes<'_>,
     goals: Goals,
-    tree: &mut T,
-    banks: &mut K,
+    tree: &mut M::Tree,
+    banks: &mut M::Banks,
     items: Vec<Item>,
     disk: D,
 ) -> (Result<u8, Stop>, D, Left)
-where
-    R: Threads + Wait + Sync,
-    T: Tree,
-    E: Exec<Receipt> + Sync,
-    O: Write + Drop + Send,
-    W: Write + Drop + Send,
-    P: Place + Sync,
-    G: Guard,
-    K: Banks,
-    K::End: Drop + Send,
-    D: Disk + Drop + Send,
     ensures status { IfOk result.0 (λ s. s ≤ 2) }
-    ensures makes { IfOk result.0 (λ s. (looks : List ℕ → Option FileLook) → T.allows tree.new looks
+    ensures makes { IfOk result.0 (λ s. (looks : List ℕ → Option FileLook) → M.Tree.allows tree.new looks
         → MakesItems goals.profile goals.definitions.items means.now.environment.now goals.targets wishes.now.makes_all wishes.now.goes_on
         (unwrap_or goals.behind none_tried) looks items.items (keeps means.now.environment.now items.items) (keeps means.now.environment.now items.items)
         D.honest (D.seen disk) s (now (D.moments result.1)) (tried_in result.2)) }
-    ensures looks { (looks : List ℕ → Option FileLook) → T.allows tree.new looks → T.allows tree.old looks }
+    ensures looks { (looks : List ℕ → Option FileLook) → M.Tree.allows tree.new looks → M.Tree.allows tree.old looks }
     ensures untouched { keeps means.now.environment.now items.items ≡ false → result.1 ≡ disk }
     ensures parted { IfErr result.0 (λ stop. IsParted stop → RecoversAsBefore (kept_form goals.profile) D.honest (D.seen disk) (D.seen result.1)) }
-    ensures let_go { K.serves banks.old ≡ false → K.serves banks.new ≡ false }
+    ensures let_go { M.Banks.serves banks.old ≡ false → M.Banks.serves banks.new ≡ false }
 {
     if keeps_state(means.environment, &items) {
         if let Err(stop) = hold_state(guard, means.say, wishes.state.as_str()) {
@@ -156,12 +129,12 @@ where
             drop(items);
             return (Err(stop), disk, Left::nothing(alloc));
         }
-        return run_over(
+        return run_over::<M, E, D>(
             rt, alloc, means, wishes, true, goals, tree, banks, items, disk,
         );
     }
     let memory = MemDisk::new(alloc);
-    let (found, memory, standing) = run_over(
+    let (found, memory, standing) = run_over::<M, E, MemDisk>(
         rt, alloc, means, wishes, false, goals, tree, banks, items, memory,
     );
     drop(memory);
@@ -169,40 +142,28 @@ where
 }
 
 /// Makes the goals of these makefiles.
-fn run_makefile<R, T, I, E, O, W, P, G, K, D>(
-    rt: &R,
+fn run_makefile<M: Machine, E: Exec<Receipt> + Sync, D: Disk + Drop + Send>(
+    rt: &M::Runtime,
     alloc: Global,
-    means: &Means<'_, E, Printer<'_, R, O, W>, P>,
-    guard: &mut G,
+    means: &Means<'_, E, Printer<'_, M::Runtime, M::Out, M::Err>, M::Place>,
+    guard: &mut M::Guard,
     wishes: &Wishes<'_>,
     makefiles: &Makefiles,
     goals: Goals,
-    tree: &mut T,
-    includes: &mut I,
-    banks: &mut K,
+    tree: &mut M::Tree,
+    includes: &mut M::Includes,
+    banks: &mut M::Banks,
     disk: D,
 ) -> (Result<u8, Stop>, D, Left)
-where
-    R: Threads + Wait + Sync,
-    T: Tree,
-    I: Includes,
-    E: Exec<Receipt> + Sync,
-    O: Write + Drop + Send,
-    W: Write + Drop + Send,
-    P: Place + Sync,
-    G: Guard,
-    K: Banks,
-    K::End: Drop + Send,
-    D: Disk + Drop + Send,
     ensures status { IfOk result.0 (λ s. s ≤ 2) }
-    ensures makes { IfOk result.0 (λ s. (world : World) (looks : List ℕ → Option FileLook) → I.allows includes.new world → T.allows tree.new looks
+    ensures makes { IfOk result.0 (λ s. (world : World) (looks : List ℕ → Option FileLook) → M.Includes.allows includes.new world → M.Tree.allows tree.new looks
         → Makes world looks makefiles.now goals.profile goals.definitions.items means.now.environment.now goals.targets wishes.now.makes_all wishes.now.goes_on
         (unwrap_or goals.behind none_tried) D.honest (D.seen disk) s (now (D.moments result.1)) (tried_in result.2)) }
-    ensures untouched { (result.1 ≡ disk) ⊎ ((world : World) (looks : List ℕ → Option FileLook) → I.allows includes.new world → T.allows tree.new looks
+    ensures untouched { (result.1 ≡ disk) ⊎ ((world : World) (looks : List ℕ → Option FileLook) → M.Includes.allows includes.new world → M.Tree.allows tree.new looks
         → (items : List MakefileItem) × AreItems world looks makefiles.now (first_defined goals.profile goals.definitions.items means.now.environment.now) items
         × (keeps means.now.environment.now items ≡ true)) }
     ensures parted { IfErr result.0 (λ stop. IsParted stop → RecoversAsBefore (kept_form goals.profile) D.honest (D.seen disk) (D.seen result.1)) }
-    ensures let_go { K.serves banks.old ≡ false → K.serves banks.new ≡ false }
+    ensures let_go { M.Banks.serves banks.old ≡ false → M.Banks.serves banks.new ≡ false }
 {
     match items_of(
         alloc,
@@ -215,7 +176,7 @@ where
     ) {
         Ok(items) => {
             means.say.notes_of(alloc, goals.behind.is_some(), includes);
-            run_items(
+            run_items::<M, E, D>(
                 rt, alloc, means, guard, wishes, goals, tree, banks, items, disk,
             )
         }
@@ -233,48 +194,36 @@ where
 /// The makefile's faults come first, then, where state is kept, that the run which called this one has it, those of the state and
 /// of its compaction, then the rules'. Any of them ends the run before a recipe is run, and so does it that the goals are to be made in
 /// parts, unless they are one. Other runs over the state are waited for before it is looked at.
-pub fn build_at_once<R, T, I, E, O, W, P, G, K, D>(
-    rt: &R,
+pub fn build_at_once<M: Machine, E: Exec<Receipt> + Sync, D: Disk + Drop + Send>(
+    rt: &M::Runtime,
     alloc: Global,
-    means: &Means<'_, E, Printer<'_, R, O, W>, P>,
-    guard: &mut G,
+    means: &Means<'_, E, Printer<'_, M::Runtime, M::Out, M::Err>, M::Place>,
+    guard: &mut M::Guard,
     options: Options,
     behind: Option<Tried>,
-    tree: &mut T,
-    includes: &mut I,
-    banks: &mut K,
+    tree: &mut M::Tree,
+    includes: &mut M::Includes,
+    banks: &mut M::Banks,
     disk: D,
 ) -> (Result<u8, Stop>, D, Left)
-where
-    R: Threads + Wait + Sync,
-    T: Tree,
-    I: Includes,
-    E: Exec<Receipt> + Sync,
-    O: Write + Drop + Send,
-    W: Write + Drop + Send,
-    P: Place + Sync,
-    G: Guard,
-    K: Banks,
-    K::End: Drop + Send,
-    D: Disk + Drop + Send,
     // Recipes are run only where neither the words nor MAKEFLAGS ask for a listing.
     requires asked { AsksToRun options (value_in means.now.environment.now (codes "MAKEFLAGS")) }
     // Nothing is known yet of any file.
-    requires anew { (looks : List ℕ → Option FileLook) → T.allows tree.old looks }
+    requires anew { (looks : List ℕ → Option FileLook) → M.Tree.allows tree.old looks }
     ensures status { IfOk result.0 (λ s. s ≤ 2) }
     // Each target that was built is done in every pair of crash images, with the commands of the 'done' whose receipt its worker
     // gathered: so for all texts and looks that agree with what was answered.
-    ensures makes { IfOk result.0 (λ s. (world : World) (looks : List ℕ → Option FileLook) → I.allows includes.new world → T.allows tree.new looks
+    ensures makes { IfOk result.0 (λ s. (world : World) (looks : List ℕ → Option FileLook) → M.Includes.allows includes.new world → M.Tree.allows tree.new looks
         → Makes world looks options.makefiles options.profile options.definitions.items means.now.environment.now options.targets options.makes_all options.goes_on
         (unwrap_or behind none_tried) D.honest (D.seen disk) s (now (D.moments result.1)) (tried_in result.2)) }
     // Unless a makefile that was read keeps state, the disk is handed back as it came.
-    ensures untouched { (result.1 ≡ disk) ⊎ ((world : World) (looks : List ℕ → Option FileLook) → I.allows includes.new world → T.allows tree.new looks
+    ensures untouched { (result.1 ≡ disk) ⊎ ((world : World) (looks : List ℕ → Option FileLook) → M.Includes.allows includes.new world → M.Tree.allows tree.new looks
         → (items : List MakefileItem) × AreItems world looks options.makefiles (first_defined options.profile options.definitions.items means.now.environment.now) items
         × (keeps means.now.environment.now items ≡ true)) }
     // Where the goals are to be made in parts, nothing was begun: the disk recovers no other state than before.
     ensures parted { IfErr result.0 (λ stop. IsParted stop → RecoversAsBefore (kept_form options.profile) D.honest (D.seen disk) (D.seen result.1)) }
     // A pool that is served for the run is let go at its end.
-    ensures let_go { K.serves banks.old ≡ false → K.serves banks.new ≡ false }
+    ensures let_go { M.Banks.serves banks.old ≡ false → M.Banks.serves banks.new ≡ false }
 {
     let Options {
         makefiles,
@@ -306,7 +255,7 @@ where
         targets,
         behind,
     };
-    run_makefile(
+    run_makefile::<M, E, D>(
         rt, alloc, means, guard, &wishes, &makefiles, goals, tree, includes, banks, disk,
     )
 }

@@ -17,67 +17,40 @@ use byte_strings::ByteStrings;
 use dmk_parts::{Standing, Tried, goes_on, in_parts, joined, part_behind, part_of};
 use dmk_printing::Printer;
 use dmk_reading::Options;
-use dmk_store::{Guard, Stop, status_of};
-use jb_recipe::Place;
-use jb_slots::Banks;
-use mk_eval::Includes;
-use mk_rules::Tree;
+use dmk_store::{Looks, Machine, Stop, status_of};
 use st_disk::Disk;
 use std::alloc::Global;
-use std::io::Write;
-use std::sync::Wait;
-use std::thread::Threads;
-
-/// Files that can be looked at anew.
-pub trait Looks<T: Tree> {
-    /// What knows nothing yet of any file.
-    fn anew(&self) -> T
-        ensures { (looks : List ℕ → Option FileLook) → T.allows result looks };
-}
 
 /// Makes a part of what the options ask for, over files that are looked at anew, behind parts that tried these names.
 /// Its own are added.
-fn made_part<R, T, L, I, E, O, W, P, G, K, D>(
-    rt: &R,
+fn made_part<M: Machine, E: Exec<Receipt> + Sync, D: Disk + Drop + Send>(
+    rt: &M::Runtime,
     alloc: Global,
-    means: &Means<'_, E, Printer<'_, R, O, W>, P>,
-    guard: &mut G,
+    means: &Means<'_, E, Printer<'_, M::Runtime, M::Out, M::Err>, M::Place>,
+    guard: &mut M::Guard,
     options: &Options,
     targets: &ByteStrings,
     tried: &mut Tried,
-    looks: &L,
-    includes: &mut I,
-    banks: &mut K,
+    looks: &M::Looks,
+    includes: &mut M::Includes,
+    banks: &mut M::Banks,
     disk: D,
 ) -> (Result<u8, Stop>, D, Vec<Standing>)
-where
-    R: Threads + Wait + Sync,
-    T: Tree + Drop,
-    L: Looks<T>,
-    I: Includes,
-    E: Exec<Receipt> + Sync,
-    O: Write + Drop + Send,
-    W: Write + Drop + Send,
-    P: Place + Sync,
-    G: Guard,
-    K: Banks,
-    K::End: Drop + Send,
-    D: Disk + Drop + Send,
     requires { AsksToRun options.now (value_in means.now.environment.now (codes "MAKEFLAGS")) }
     ensures status { IfOk result.0 (λ s. s ≤ 2) }
-    ensures part { IfOk result.0 (MakesPart (λ source world. I.allows source world) (λ tree looks. T.allows tree looks) options.now
+    ensures part { IfOk result.0 (MakesPart (λ source world. M.Includes.allows source world) (λ tree looks. M.Tree.allows tree looks) options.now
         means.now.environment.now D.honest (λ d. D.seen d) (λ d. now (D.moments d)) targets.now
         (disk, tried.old) (result.1, tried.new)) }
-    ensures untouched { LeavesDisk (λ source world. I.allows source world) (λ tree looks. T.allows tree looks) options.now
+    ensures untouched { LeavesDisk (λ source world. M.Includes.allows source world) (λ tree looks. M.Tree.allows tree looks) options.now
         means.now.environment.now disk result.1 }
-    ensures let_go { K.serves banks.old ≡ false → K.serves banks.new ≡ false }
+    ensures let_go { M.Banks.serves banks.old ≡ false → M.Banks.serves banks.new ≡ false }
 {
     let (part, behind) = match part_behind(alloc, options, targets, tried) {
         Ok(part) => part,
         Err(error) => return (Err(Stop::from(error)), disk, Vec::new(alloc)),
     };
     let mut files = looks.anew();
-    let (found, disk, left) = build_at_once(
+    let (found, disk, left) = build_at_once::<M, E, D>(
         rt,
         alloc,
         means,
@@ -96,41 +69,28 @@ where
 
 /// Notes which targets are lost since they were judged up to date. In the wide profile these are made. Those that there is no memory for
 /// aren't looked at again.
-fn lost_made<R, T, L, I, E, O, W, P, G, K, D>(
-    rt: &R,
+fn lost_made<M: Machine, E: Exec<Receipt> + Sync, D: Disk + Drop + Send>(
+    rt: &M::Runtime,
     alloc: Global,
-    means: &Means<'_, E, Printer<'_, R, O, W>, P>,
-    guard: &mut G,
+    means: &Means<'_, E, Printer<'_, M::Runtime, M::Out, M::Err>, M::Place>,
+    guard: &mut M::Guard,
     options: &Options,
     tried: &mut Tried,
-    looks: &L,
-    includes: &mut I,
-    banks: &mut K,
+    looks: &M::Looks,
+    includes: &mut M::Includes,
+    banks: &mut M::Banks,
     ran: (Result<u8, Stop>, D, Vec<Standing>),
 ) -> (Result<u8, Stop>, D)
-where
-    R: Threads + Wait + Sync,
-    T: Tree + Drop,
-    L: Looks<T>,
-    I: Includes,
-    E: Exec<Receipt> + Sync,
-    O: Write + Drop + Send,
-    W: Write + Drop + Send,
-    P: Place + Sync,
-    G: Guard,
-    K: Banks,
-    K::End: Drop + Send,
-    D: Disk + Drop + Send,
     requires asks { AsksToRun options.now (value_in means.now.environment.now (codes "MAKEFLAGS")) }
     requires status { IfOk ran.0 (λ s. s ≤ 2) }
     ensures status { IfOk result.0 (λ s. s ≤ 2) }
-    ensures behind { IfOk result.0 (λ s. (before : ℕ) × (ran.0 ≡ Ok before) × MadeBehind (MakesPart (λ source world. I.allows source world) (λ tree looks. T.allows tree looks) options.now
+    ensures behind { IfOk result.0 (λ s. (before : ℕ) × (ran.0 ≡ Ok before) × MadeBehind (MakesPart (λ source world. M.Includes.allows source world) (λ tree looks. M.Tree.allows tree looks) options.now
         means.now.environment.now D.honest (λ d. D.seen d) (λ d. now (D.moments d)))
         options.now.goes_on before (ran.1, tried.old) (result.1, tried.new) s) }
     ensures strict { options.now.profile ≡ Strict → (result.1 ≡ ran.1) × (tried.new ≡ tried.old) × IfOk result.0 (λ s. ran.0 ≡ Ok s) }
-    ensures untouched { LeavesDisk (λ source world. I.allows source world) (λ tree looks. T.allows tree looks) options.now
+    ensures untouched { LeavesDisk (λ source world. M.Includes.allows source world) (λ tree looks. M.Tree.allows tree looks) options.now
         means.now.environment.now ran.1 result.1 }
-    ensures let_go { K.serves banks.old ≡ false → K.serves banks.new ≡ false }
+    ensures let_go { M.Banks.serves banks.old ≡ false → M.Banks.serves banks.new ≡ false }
 {
     let (found, disk, standing) = ran;
     if standing.is_empty() {
@@ -143,7 +103,7 @@ where
     if lost.is_empty() || !options.profile.is_wide() || !goes_on(options, &found) {
         return (found, disk);
     }
-    let (again, disk, more) = made_part(
+    let (again, disk, more) = made_part::<M, E, D>(
         rt, alloc, means, guard, options, &lost, tried, looks, includes, banks, disk,
     );
     drop(more);
@@ -151,39 +111,26 @@ where
 }
 
 /// Makes the parts, one behind the other, and behind each what is lost since. One that fails ends the run, unless it is to go on.
-fn made_in_turn<R, T, L, I, E, O, W, P, G, K, D>(
-    rt: &R,
+fn made_in_turn<M: Machine, E: Exec<Receipt> + Sync, D: Disk + Drop + Send>(
+    rt: &M::Runtime,
     alloc: Global,
-    means: &Means<'_, E, Printer<'_, R, O, W>, P>,
-    guard: &mut G,
+    means: &Means<'_, E, Printer<'_, M::Runtime, M::Out, M::Err>, M::Place>,
+    guard: &mut M::Guard,
     options: &Options,
     parts: &[ByteStrings],
-    looks: &L,
-    includes: &mut I,
-    banks: &mut K,
+    looks: &M::Looks,
+    includes: &mut M::Includes,
+    banks: &mut M::Banks,
     disk: D,
 ) -> (Result<u8, Stop>, D)
-where
-    R: Threads + Wait + Sync,
-    T: Tree + Drop,
-    L: Looks<T>,
-    I: Includes,
-    E: Exec<Receipt> + Sync,
-    O: Write + Drop + Send,
-    W: Write + Drop + Send,
-    P: Place + Sync,
-    G: Guard,
-    K: Banks,
-    K::End: Drop + Send,
-    D: Disk + Drop + Send,
     requires { AsksToRun options.now (value_in means.now.environment.now (codes "MAKEFLAGS")) }
     ensures status { IfOk result.0 (λ s. s ≤ 2) }
-    ensures in_turn { IfOk result.0 (λ s. (tried : TriedNames) × MadeInTurn (MakesWithLost (MakesPart (λ source world. I.allows source world) (λ tree looks. T.allows tree looks) options.now
+    ensures in_turn { IfOk result.0 (λ s. (tried : TriedNames) × MadeInTurn (MakesWithLost (MakesPart (λ source world. M.Includes.allows source world) (λ tree looks. M.Tree.allows tree looks) options.now
         means.now.environment.now D.honest (λ d. D.seen d) (λ d. now (D.moments d))) options.now.goes_on)
         options.now.goes_on parts.now (disk, none_tried) (result.1, tried) s) }
-    ensures untouched { LeavesDisk (λ source world. I.allows source world) (λ tree looks. T.allows tree looks) options.now
+    ensures untouched { LeavesDisk (λ source world. M.Includes.allows source world) (λ tree looks. M.Tree.allows tree looks) options.now
         means.now.environment.now disk result.1 }
-    ensures let_go { K.serves banks.old ≡ false → K.serves banks.new ≡ false }
+    ensures let_go { M.Banks.serves banks.old ≡ false → M.Banks.serves banks.new ≡ false }
 {
     let mut disk = disk;
     let mut tried = Tried::nothing(alloc);
@@ -192,10 +139,10 @@ where
         if !goes_on(options, &found) {
             break;
         }
-        let ran = made_part(
+        let ran = made_part::<M, E, D>(
             rt, alloc, means, guard, options, targets, &mut tried, looks, includes, banks, disk,
         );
-        let (behind, left) = lost_made(
+        let (behind, left) = lost_made::<M, E, D>(
             rt, alloc, means, guard, options, &mut tried, looks, includes, banks, ran,
         );
         disk = left;
@@ -220,48 +167,35 @@ fn made_or_ends(options: &Options, found: Result<u8, Stop>) -> Result<Result<u8,
 }
 
 /// Makes all that the options ask for: at once, or in parts.
-fn made_whole<R, T, L, I, E, O, W, P, G, K, D>(
-    rt: &R,
+fn made_whole<M: Machine, E: Exec<Receipt> + Sync, D: Disk + Drop + Send>(
+    rt: &M::Runtime,
     alloc: Global,
-    means: &Means<'_, E, Printer<'_, R, O, W>, P>,
-    guard: &mut G,
+    means: &Means<'_, E, Printer<'_, M::Runtime, M::Out, M::Err>, M::Place>,
+    guard: &mut M::Guard,
     options: &Options,
-    looks: &L,
-    includes: &mut I,
-    banks: &mut K,
+    looks: &M::Looks,
+    includes: &mut M::Includes,
+    banks: &mut M::Banks,
     disk: D,
 ) -> (Result<u8, Stop>, D)
-where
-    R: Threads + Wait + Sync,
-    T: Tree + Drop,
-    L: Looks<T>,
-    I: Includes,
-    E: Exec<Receipt> + Sync,
-    O: Write + Drop + Send,
-    W: Write + Drop + Send,
-    P: Place + Sync,
-    G: Guard,
-    K: Banks,
-    K::End: Drop + Send,
-    D: Disk + Drop + Send,
     requires { AsksToRun options.now (value_in means.now.environment.now (codes "MAKEFLAGS")) }
     ensures status { IfOk result.0 (λ s. s ≤ 2) }
-    ensures in_turn { IfOk result.0 (λ s. (tried : TriedNames) × IsMadeInTurn (MakesPart (λ source world. I.allows source world) (λ tree looks. T.allows tree looks) options.now
+    ensures in_turn { IfOk result.0 (λ s. (tried : TriedNames) × IsMadeInTurn (MakesPart (λ source world. M.Includes.allows source world) (λ tree looks. M.Tree.allows tree looks) options.now
         means.now.environment.now D.honest (λ d. D.seen d) (λ d. now (D.moments d)))
         options.now.goes_on options.now.targets (disk, none_tried) (result.1, tried) s) }
-    ensures strict { options.now.profile ≡ Strict → IfOk result.0 (λ s. (tried : TriedNames) × MakesPart (λ source world. I.allows source world) (λ tree looks. T.allows tree looks) options.now
+    ensures strict { options.now.profile ≡ Strict → IfOk result.0 (λ s. (tried : TriedNames) × MakesPart (λ source world. M.Includes.allows source world) (λ tree looks. M.Tree.allows tree looks) options.now
         means.now.environment.now D.honest (λ d. D.seen d) (λ d. now (D.moments d)) options.now.targets
         (disk, none_tried) (result.1, tried) s) }
-    ensures untouched { LeavesDisk (λ source world. I.allows source world) (λ tree looks. T.allows tree looks) options.now
+    ensures untouched { LeavesDisk (λ source world. M.Includes.allows source world) (λ tree looks. M.Tree.allows tree looks) options.now
         means.now.environment.now disk result.1 }
-    ensures let_go { K.serves banks.old ≡ false → K.serves banks.new ≡ false }
+    ensures let_go { M.Banks.serves banks.old ≡ false → M.Banks.serves banks.new ≡ false }
 {
     let whole = match part_of(alloc, options, &options.targets) {
         Ok(whole) => whole,
         Err(error) => return (Err(Stop::from(error)), disk),
     };
     let mut tree = looks.anew();
-    let (found, disk, left) = build_at_once(
+    let (found, disk, left) = build_at_once::<M, E, D>(
         rt, alloc, means, guard, whole, None, &mut tree, includes, banks, disk,
     );
     drop(tree);
@@ -270,7 +204,7 @@ where
             let mut tried = Tried::nothing(alloc);
             let found = tried.add_behind(alloc, &mut looks.anew(), &left, found);
             let ran = (found, disk, left.into_standing());
-            return lost_made(
+            return lost_made::<M, E, D>(
                 rt, alloc, means, guard, options, &mut tried, looks, includes, banks, ran,
             );
         }
@@ -278,7 +212,7 @@ where
     };
     drop(left);
     match in_parts(alloc, &options.targets, &ends) {
-        Ok(parts) => made_in_turn(
+        Ok(parts) => made_in_turn::<M, E, D>(
             rt, alloc, means, guard, options, &parts, looks, includes, banks, disk,
         ),
         Err(error) => (Err(Stop::from(error)), disk),
@@ -290,48 +224,35 @@ where
 /// Goals of the wide profile may be made in parts, one behind the other: of each what `build_at_once` says holds, over the disk that
 /// the one before it left, and behind what those before it tried: neither what they built without a file is made again, nor what failed in them, or
 /// stands on that. So it is of targets that are lost since they were judged up to date, which are made behind it.
-pub fn build_targets<R, T, L, I, E, O, W, P, G, K, D>(
-    rt: &R,
+pub fn build_targets<M: Machine, E: Exec<Receipt> + Sync, D: Disk + Drop + Send>(
+    rt: &M::Runtime,
     alloc: Global,
-    means: &Means<'_, E, Printer<'_, R, O, W>, P>,
-    guard: &mut G,
+    means: &Means<'_, E, Printer<'_, M::Runtime, M::Out, M::Err>, M::Place>,
+    guard: &mut M::Guard,
     options: Options,
-    looks: &L,
-    includes: &mut I,
-    banks: &mut K,
+    looks: &M::Looks,
+    includes: &mut M::Includes,
+    banks: &mut M::Banks,
     disk: D,
 ) -> (u8, D)
-where
-    R: Threads + Wait + Sync,
-    T: Tree + Drop,
-    L: Looks<T>,
-    I: Includes,
-    E: Exec<Receipt> + Sync,
-    O: Write + Drop + Send,
-    W: Write + Drop + Send,
-    P: Place + Sync,
-    G: Guard,
-    K: Banks,
-    K::End: Drop + Send,
-    D: Disk + Drop + Send,
     // Recipes are run only where neither the words nor MAKEFLAGS ask for a listing.
     requires { AsksToRun options (value_in means.now.environment.now (codes "MAKEFLAGS")) }
     ensures status { result.0 ≤ 2 }
     // At another status than 2 the goals were made over the disk, in parts one behind the other, and behind a part maybe some targets that
     // were lost. Of each of these `build_at_once` tells what is so.
-    ensures in_turn { result.0 ≢ 2 → (tried : TriedNames) × IsMadeInTurn (MakesPart (λ source world. I.allows source world) (λ tree looks. T.allows tree looks) options
+    ensures in_turn { result.0 ≢ 2 → (tried : TriedNames) × IsMadeInTurn (MakesPart (λ source world. M.Includes.allows source world) (λ tree looks. M.Tree.allows tree looks) options
         means.now.environment.now D.honest (λ d. D.seen d) (λ d. now (D.moments d)))
         options.goes_on options.targets (disk, none_tried) (result.1, tried) result.0 }
     // In the strict profile there is one part.
-    ensures strict { result.0 ≢ 2 → options.profile ≡ Strict → (tried : TriedNames) × MakesPart (λ source world. I.allows source world) (λ tree looks. T.allows tree looks) options
+    ensures strict { result.0 ≢ 2 → options.profile ≡ Strict → (tried : TriedNames) × MakesPart (λ source world. M.Includes.allows source world) (λ tree looks. M.Tree.allows tree looks) options
         means.now.environment.now D.honest (λ d. D.seen d) (λ d. now (D.moments d)) options.targets (disk, none_tried) (result.1, tried) result.0 }
     // Unless a makefile that was read keeps state, the disk is handed back as it came.
-    ensures untouched { LeavesDisk (λ source world. I.allows source world) (λ tree looks. T.allows tree looks) options
+    ensures untouched { LeavesDisk (λ source world. M.Includes.allows source world) (λ tree looks. M.Tree.allows tree looks) options
         means.now.environment.now disk result.1 }
     // A pool that is served for the run is let go at its end.
-    ensures let_go { K.serves banks.old ≡ false → K.serves banks.new ≡ false }
+    ensures let_go { M.Banks.serves banks.old ≡ false → M.Banks.serves banks.new ≡ false }
 {
-    let (found, disk) = made_whole(
+    let (found, disk) = made_whole::<M, E, D>(
         rt, alloc, means, guard, &options, looks, includes, banks, disk,
     );
     let status = status_of(means.say, options.state.as_str(), found);

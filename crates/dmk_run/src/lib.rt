@@ -14,4 +14,4 @@ mod standing;
 
 pub use building::build;
 pub use driver::{Means, build_at_once};
-pub use in_turn::{Looks, build_targets};
+pub use in_turn::build_targets;

@@ -18,42 +18,36 @@ use bd_flusher::Receipt;
 use bd_lists::Exec;
 use dmk_parts::{Left, Plan, Wishes, ready_recipes, recorded_apart, with_unmade};
 use dmk_printing::Printer;
-use dmk_store::{Stop, disk_of};
-use jb_recipe::Place;
-use jb_slots::Banks;
+use dmk_store::{Machine, Stop, disk_of};
 use st_disk::Disk;
 use st_file::LogIn;
 use st_recovery::StoreIn;
 use std::alloc::Global;
-use std::io::Write;
 use std::mem;
-use std::sync::Wait;
-use std::thread::Threads;
+
+/// The outside of workers on a machine.
+type Served<'p, M, E> = (
+    <M as Machine>::Runtime,
+    E,
+    Printer<'p, <M as Machine>::Runtime, <M as Machine>::Out, <M as Machine>::Err>,
+    <M as Machine>::Place,
+);
 
 /// Makes what was planned, some recipe of which may be to be run. The store is put together for that: the graph keeps its state,
 /// so the store's is a copy, or what the graph has forgotten.
 ///
 /// A copy for each run was a sixteenth of a null run's instructions, and 13 MB for 49,000 targets. The graph can't borrow the
 /// store's, which is written while the graph is read.
-fn make_listed<R, O, W, E, P, K, D>(
-    rt: &R,
+fn make_listed<M: Machine, E: Exec<Receipt> + Sync, D: Disk + Drop + Send>(
+    rt: &M::Runtime,
     alloc: Global,
-    means: &Means<'_, E, Printer<'_, R, O, W>, P>,
+    means: &Means<'_, E, Printer<'_, M::Runtime, M::Out, M::Err>, M::Place>,
     wishes: &Wishes<'_>,
     is_part: bool,
     plan: Plan,
-    banks: &mut K,
+    banks: &mut M::Banks,
     log: LogIn<D>,
 ) -> (Result<u8, Stop>, D, Left)
-where
-    R: Threads + Wait + Sync,
-    E: Exec<Receipt> + Sync,
-    O: Write + Drop + Send,
-    W: Write + Drop + Send,
-    P: Place + Sync,
-    K: Banks,
-    K::End: Drop + Send,
-    D: Disk + Drop + Send,
     requires stored { D.honest → log.dead ≡ false → IsStoredOnIn plan.conduct.form (D.seen log.disk) (now (D.moments log.disk)) log.side
         log.form log.generation log.end (recorded_in plan) }
     requires is_read { IsReadIn plan.conduct.form log.form }
@@ -62,7 +56,7 @@ where
     ensures made { IfOk result.0 (λ s. HasMade plan.conduct.form plan.graph plan.conduct.counts_records plan.conduct.keeps_state D.honest (now (D.moments result.1)) s
         (tried_in result.2)) }
     ensures parted { IfErr result.0 (λ stop. IsParted stop → result.1 ≡ log.disk) }
-    ensures let_go { K.serves banks.old ≡ false → K.serves banks.new ≡ false }
+    ensures let_go { M.Banks.serves banks.old ≡ false → M.Banks.serves banks.new ≡ false }
 {
     let Plan {
         graph,
@@ -81,7 +75,9 @@ where
     let counting = conduct.counts_records;
     let newest = conduct.form;
     let store = StoreIn { log, state, newest };
-    let Built { found, store } = build(rt, alloc, means, &graph, conduct, workers, banks, store);
+    let Built { found, store } = build::<Served<'_, M, E>, D, M::Banks>(
+        rt, alloc, means, &graph, conduct, workers, banks, store,
+    );
     count(alloc, counting, &graph, means.say, &found);
     let StoreIn {
         log,
@@ -95,25 +91,16 @@ where
 }
 
 /// Makes what was planned over an opened store's log. The disk comes back.
-pub(crate) fn make<R, O, W, E, P, K, D>(
-    rt: &R,
+pub(crate) fn make<M: Machine, E: Exec<Receipt> + Sync, D: Disk + Drop + Send>(
+    rt: &M::Runtime,
     alloc: Global,
-    means: &Means<'_, E, Printer<'_, R, O, W>, P>,
+    means: &Means<'_, E, Printer<'_, M::Runtime, M::Out, M::Err>, M::Place>,
     wishes: &Wishes<'_>,
     is_part: bool,
     plan: Plan,
-    banks: &mut K,
+    banks: &mut M::Banks,
     log: LogIn<D>,
 ) -> (Result<u8, Stop>, D, Left)
-where
-    R: Threads + Wait + Sync,
-    E: Exec<Receipt> + Sync,
-    O: Write + Drop + Send,
-    W: Write + Drop + Send,
-    P: Place + Sync,
-    K: Banks,
-    K::End: Drop + Send,
-    D: Disk + Drop + Send,
     requires alive { log.dead ≡ false }
     requires stored { D.honest → log.dead ≡ false → IsStoredOnIn plan.conduct.form (D.seen log.disk) (now (D.moments log.disk)) log.side
         log.form log.generation log.end (recorded_in plan) }
@@ -123,7 +110,7 @@ where
     ensures made { IfOk result.0 (λ s. HasMade plan.conduct.form plan.graph plan.conduct.counts_records plan.conduct.keeps_state D.honest (now (D.moments result.1)) s
         (tried_in result.2)) }
     ensures parted { IfErr result.0 (λ stop. IsParted stop → result.1 ≡ log.disk) }
-    ensures let_go { K.serves banks.old ≡ false → K.serves banks.new ≡ false }
+    ensures let_go { M.Banks.serves banks.old ≡ false → M.Banks.serves banks.new ≡ false }
 {
     if !is_none_to_run(alloc, &plan, means.say) {
         if let Err(stop) = ready_recipes(
@@ -135,7 +122,7 @@ where
             mem::forget(plan);
             return (Err(stop), disk_of(log), Left::nothing(alloc));
         }
-        return make_listed(rt, alloc, means, wishes, is_part, plan, banks, log);
+        return make_listed::<M, E, D>(rt, alloc, means, wishes, is_part, plan, banks, log);
     }
     let status = with_unmade(&plan.graph, 0);
     // It is millions of small pieces of memory. The run ends here, and the system takes all of them back at once.

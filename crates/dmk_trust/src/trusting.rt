@@ -21,10 +21,9 @@ use bd_flusher::FlushFault;
 use bd_lists::Variable;
 use dmk_printing::{Printer, Trusted};
 use dmk_reading::{Options, items_of, keeps_state, kept_form};
-use dmk_store::{Guard, Stop, disk_of_store, graph_of, hold_state, open_store, status_of};
+use dmk_store::{Machine, Stop, disk_of_store, graph_of, hold_state, open_store, status_of};
 use jb_closing::RunFault;
 use jb_recipe::Place;
-use mk_eval::Includes;
 use mk_nodes::Graph;
 use mk_reader::Item;
 use mk_rules::Tree;
@@ -33,8 +32,6 @@ use st_records::HashKey;
 use st_recovery::StoreIn;
 use st_state::State;
 use std::alloc::Global;
-use std::io::Write;
-use std::sync::Wait;
 
 /// Records the targets of a graph that are taken as they are, all of them or none, and answers how many there are.
 fn record_taken<P: Place, D: Disk + Drop>(
@@ -159,40 +156,31 @@ fn trust_on<T: Tree, P: Place, D: Disk + Drop>(
 }
 
 /// Takes targets as they are where a makefile that is read keeps state. The disk comes back.
-fn trust_makefile<R, T, I, O, W, P, G, D>(
+fn trust_makefile<M: Machine, P: Place, D: Disk + Drop>(
     alloc: Global,
     key: HashKey,
     environment: &[Variable],
-    printer: &Printer<'_, R, O, W>,
-    guard: &mut G,
+    printer: &Printer<'_, M::Runtime, M::Out, M::Err>,
+    guard: &mut M::Guard,
     options: &Options,
-    tree: &mut T,
+    tree: &mut M::Tree,
     place: &P,
-    includes: &mut I,
+    includes: &mut M::Includes,
     disk: D,
 ) -> (Result<Trusted, Stop>, D)
-where
-    R: Wait,
-    T: Tree,
-    I: Includes,
-    O: Write + Drop,
-    W: Write + Drop,
-    P: Place,
-    G: Guard,
-    D: Disk + Drop,
-    ensures any_moment { D.honest → (world : World) (looks : List ℕ → Option FileLook) → I.allows includes.new world → T.allows tree.new looks
+    ensures any_moment { D.honest → (world : World) (looks : List ℕ → Option FileLook) → M.Includes.allows includes.new world → M.Tree.allows tree.new looks
         → (result.1 ≡ disk) ⊎ ((items : List MakefileItem) × AreItems world looks options.now.makefiles
         (first_defined options.now.profile options.now.definitions.items environment.now) items × (keeps environment.now items ≡ true)
         × Throughout (D.moments disk) (D.moments result.1) (ArePossibleOrTaken (kept_form options.now.profile) (IsWholeGraphOf options.now.profile options.now.definitions.items
         environment.now options.now.targets looks items finmap.empty) (D.seen disk) (now (D.moments disk)))) }
     ensures left { IfOk result.0 (λ found. D.honest → found ≢ trusteds.Unkept
-        → (world : World) (looks : List ℕ → Option FileLook) → I.allows includes.new world → T.allows tree.new looks
+        → (world : World) (looks : List ℕ → Option FileLook) → M.Includes.allows includes.new world → M.Tree.allows tree.new looks
         → (items : List MakefileItem) × AreItems world looks options.now.makefiles
         (first_defined options.now.profile options.now.definitions.items environment.now) items × (keeps environment.now items ≡ true)
         × LeavesState (kept_form options.now.profile) (IsWholeGraphOf options.now.profile options.now.definitions.items environment.now options.now.targets looks items finmap.empty)
         (D.seen disk) (now (D.moments result.1)) found) }
     ensures unkept { IfOk result.0 (λ found. found ≡ trusteds.Unkept → (result.1 ≡ disk)
-        × ((world : World) (looks : List ℕ → Option FileLook) → I.allows includes.new world → T.allows tree.new looks
+        × ((world : World) (looks : List ℕ → Option FileLook) → M.Includes.allows includes.new world → M.Tree.allows tree.new looks
         → (items : List MakefileItem) × AreItems world looks options.now.makefiles
         (first_defined options.now.profile options.now.definitions.items environment.now) items × (keeps environment.now items ≡ false))) }
 {
@@ -224,48 +212,39 @@ where
 /// recipe has now, once its file is on the disk. A run behind it goes by these records. What came of it is said; where a fault ends the run, that, and the status.
 ///
 /// Faults come in the order of a run's. Other runs over the state are waited for before it is looked at.
-pub fn trust_files<R, T, I, O, W, P, G, D>(
+pub fn trust_files<M: Machine, P: Place, D: Disk + Drop>(
     alloc: Global,
     key: HashKey,
     environment: &[Variable],
-    printer: &Printer<'_, R, O, W>,
-    guard: &mut G,
+    printer: &Printer<'_, M::Runtime, M::Out, M::Err>,
+    guard: &mut M::Guard,
     options: &Options,
-    tree: &mut T,
+    tree: &mut M::Tree,
     place: &P,
-    includes: &mut I,
+    includes: &mut M::Includes,
     disk: D,
 ) -> (Result<Trusted, u8>, D)
-where
-    R: Wait,
-    T: Tree,
-    I: Includes,
-    O: Write + Drop,
-    W: Write + Drop,
-    P: Place,
-    G: Guard,
-    D: Disk + Drop,
     // Unless a makefile that was read keeps state, the disk is handed back as it came. Else at every moment each pair was possible
     // at the start or recovers the state that the sides recovered or, where that is empty, the one of the targets that are taken.
-    ensures any_moment { D.honest → (world : World) (looks : List ℕ → Option FileLook) → I.allows includes.new world → T.allows tree.new looks
+    ensures any_moment { D.honest → (world : World) (looks : List ℕ → Option FileLook) → M.Includes.allows includes.new world → M.Tree.allows tree.new looks
         → (result.1 ≡ disk) ⊎ ((items : List MakefileItem) × AreItems world looks options.now.makefiles
         (first_defined options.now.profile options.now.definitions.items environment.now) items × (keeps environment.now items ≡ true)
         × Throughout (D.moments disk) (D.moments result.1) (ArePossibleOrTaken (kept_form options.now.profile) (IsWholeGraphOf options.now.profile options.now.definitions.items
         environment.now options.now.targets looks items finmap.empty) (D.seen disk) (now (D.moments disk)))) }
     // Of a state that knows of some target nothing changes; where nothing is known, all targets that are taken are recorded.
     ensures left { IfOk result.0 (λ found. D.honest → found ≢ trusteds.Unkept
-        → (world : World) (looks : List ℕ → Option FileLook) → I.allows includes.new world → T.allows tree.new looks
+        → (world : World) (looks : List ℕ → Option FileLook) → M.Includes.allows includes.new world → M.Tree.allows tree.new looks
         → (items : List MakefileItem) × AreItems world looks options.now.makefiles
         (first_defined options.now.profile options.now.definitions.items environment.now) items × (keeps environment.now items ≡ true)
         × LeavesState (kept_form options.now.profile) (IsWholeGraphOf options.now.profile options.now.definitions.items environment.now options.now.targets looks items finmap.empty)
         (D.seen disk) (now (D.moments result.1)) found) }
     ensures unkept { IfOk result.0 (λ found. found ≡ trusteds.Unkept → (result.1 ≡ disk)
-        × ((world : World) (looks : List ℕ → Option FileLook) → I.allows includes.new world → T.allows tree.new looks
+        × ((world : World) (looks : List ℕ → Option FileLook) → M.Includes.allows includes.new world → M.Tree.allows tree.new looks
         → (items : List MakefileItem) × AreItems world looks options.now.makefiles
         (first_defined options.now.profile options.now.definitions.items environment.now) items × (keeps environment.now items ≡ false))) }
     ensures status { IfErr result.0 (λ status. status ≡ 2) }
 {
-    let (found, disk) = trust_makefile(
+    let (found, disk) = trust_makefile::<M, P, D>(
         alloc,
         key,
         environment,

@@ -1,3 +1,4 @@
 pub mod Earlier
 pub mod Making
+pub mod Removing
 pub mod Serving

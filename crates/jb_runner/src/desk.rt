@@ -10,7 +10,7 @@ use bd_lists::{Advanced, BoardIn};
 use bd_places::End;
 use jb_recipe::Conduct;
 use st_disk::Disk;
-use std::sync::atomic::{AtomicUsize, Ordering};
+use std::sync::atomic::{AtomicBool, AtomicUsize, Ordering};
 use std::sync::{Condvar, Mutex, Wait};
 
 /// Workers that sleep until the board has changed.
@@ -20,6 +20,8 @@ pub(crate) struct Idlers {
     changed: Condvar,
     /// How many workers are idle: it is changed while the board's lock is held.
     idle: AtomicUsize,
+    /// All that waited was abandoned: nothing more is begun.
+    over: AtomicBool,
 }
 
 impl Idlers {
@@ -27,6 +29,7 @@ impl Idlers {
         Idlers {
             changed: Condvar::new(),
             idle: AtomicUsize::new(0),
+            over: AtomicBool::new(false),
         }
     }
 
@@ -108,11 +111,22 @@ impl Desk<'_> {
         let mut board = self.board.lock(rt);
         let advanced = board.advance(node, receipt);
         if self.ends_run(failed) {
-            abandon_waiting(&mut *board, self.nodes);
+            self.abandon_all(&mut *board);
         }
         drop(board);
         self.idlers.tell();
         advanced
+    }
+
+    /// Abandons all that waits.
+    fn abandon_all(&self, board: &mut BoardIn<Receipt>) {
+        abandon_waiting(board, self.nodes);
+        self.idlers.over.store(true, Ordering::Relaxed);
+    }
+
+    /// Whether nothing more is begun, since all that waited was abandoned.
+    pub(crate) fn is_over(&self) -> bool {
+        self.idlers.over.load(Ordering::Relaxed)
     }
 
     /// A node that needs no recipe settles. One that can't, which its claim rules out, is abandoned, so that no other waits for it.
@@ -147,7 +161,7 @@ impl Desk<'_> {
             board.abandon(node);
         }
         if is_all {
-            abandon_waiting(&mut *board, self.nodes);
+            self.abandon_all(&mut *board);
         }
         drop(board);
         self.idlers.tell();

@@ -11,6 +11,7 @@ use crate::earlier::EndedBefore;
 use crate::failing::{Over, say_block, tell_end};
 use crate::making::say_lines;
 use crate::pending::Pending;
+use crate::removing::goes_if_stopped;
 use crate::shift::Shift;
 use bd_flusher::Receipt;
 use bd_links::Node;
@@ -30,10 +31,10 @@ use std::alloc::Global;
 use std::sync::Wait;
 
 /// A recipe that the 'begun' of its target clears, and what the record of its end will say.
-struct Cleared {
-    clearance: Clearance<Receipt>,
-    recipe: Recipe,
-    note: EndNote,
+pub(crate) struct Cleared {
+    pub(crate) clearance: Clearance<Receipt>,
+    pub(crate) recipe: Recipe,
+    pub(crate) note: EndNote,
 }
 
 fn failed_status(note: &Record) -> Option<u32> {
@@ -94,6 +95,7 @@ impl<D: Disk + Drop, E: Exec<Receipt>, S: Say, P: Place> Bench<'_, D, E, S, P> {
             say: self.say,
             target: note.target(),
             tells_failed: self.graph.macros.profile().is_wide(),
+            goes: goes_if_stopped(self.graph, note),
         };
         let slot = self.slots.acquire(rt, bank);
         let ran = run_recipe(
@@ -130,7 +132,7 @@ impl<D: Disk + Drop, E: Exec<Receipt>, S: Say, P: Place> Bench<'_, D, E, S, P> {
                     recipe,
                     note,
                 };
-                self.build_cleared(rt, alloc, node, cleared, bank, shift)
+                self.build_in_turn(rt, alloc, node, cleared, bank, shift)
             }
             Ok(Begun::Refused) => {
                 drop(recipe);
@@ -147,7 +149,7 @@ impl<D: Disk + Drop, E: Exec<Receipt>, S: Say, P: Place> Bench<'_, D, E, S, P> {
     }
 
     // No line of the recipe is run beside a report of an earlier run, nor before what goes into the target was looked at.
-    fn build_cleared<R: Wait, B: Bank>(
+    pub(crate) fn build_cleared<R: Wait, B: Bank>(
         &self,
         rt: &R,
         alloc: Global,

@@ -15,6 +15,7 @@ ghost use Rattle.jb_closing.specs.Report.{ends_well, ComesTo};
 use crate::boards::board_for;
 use crate::earlier::Ends;
 use crate::gate::{Gate, staying};
+use crate::outside::{Outside, Parts};
 use crate::shift::{Shift, let_go};
 use crate::shop::Shop;
 use crate::worker::work;
@@ -27,7 +28,7 @@ use jb_recipe::{Conduct, News, Place, Say};
 use jb_slots::Bank;
 use mk_nodes::Graph;
 use st_disk::Disk;
-use st_records::{Form, HashKey};
+use st_records::Form;
 use std::alloc::{AllocError, Global};
 use std::sync::{Mutex, Wait};
 use std::thread;
@@ -143,20 +144,12 @@ where
 }
 
 /// What the workers came to, and the site, the board and what has ended, out of their locks.
-fn run_shop<R, D, E, S, P, B>(
-    rt: &R,
+fn run_shop<M: Outside, D: Disk + Drop + Send, B: Bank + Drop + Send>(
+    rt: &M::Runtime,
     alloc: Global,
-    shop: Shop<'_, D, E, S, P>,
+    shop: Shop<'_, D, M::Exec, M::Say, M::Place>,
     banks: Vec<B>,
-) -> (Shift, SiteIn<D>, BoardIn<Receipt>, Ends)
-where
-    R: Threads + Wait + Sync,
-    D: Disk + Drop + Send,
-    E: Exec<Receipt> + Sync,
-    S: Say + Sync,
-    P: Place + Sync,
-    B: Bank + Drop + Send,
-{
+) -> (Shift, SiteIn<D>, BoardIn<Receipt>, Ends) {
     let gate = Gate::new();
     let crew = run_workers(rt, alloc, &shop, &gate, banks);
     let (site, board, ends) = shop.into_parts();
@@ -220,24 +213,17 @@ fn close<D: Disk + Drop>(
 }
 
 /// The run of a shop whose records have this form, and its closing report.
-fn run_to_close<R, D, E, S, P, B>(
-    rt: &R,
+fn run_to_close<M: Outside, D: Disk + Drop + Send, B: Bank + Drop + Send>(
+    rt: &M::Runtime,
     alloc: Global,
     form: Form,
     graph: &Graph,
-    shop: Shop<'_, D, E, S, P>,
+    shop: Shop<'_, D, M::Exec, M::Say, M::Place>,
     banks: Vec<B>,
 ) -> (Result<Report, RunFault>, Closed<D>)
-where
-    R: Threads + Wait + Sync,
-    D: Disk + Drop + Send,
-    E: Exec<Receipt> + Sync,
-    S: Say + Sync,
-    P: Place + Sync,
-    B: Bank + Drop + Send,
     ensures { ComesTo D.honest D.moments form graph.now result.0 result.1.site }
 {
-    let (crew, site, board, ended) = run_shop(rt, alloc, shop, banks);
+    let (crew, site, board, ended) = run_shop::<M, D, B>(rt, alloc, shop, banks);
     let closed = Closed::new(site);
     let report = close(&closed, alloc, form, graph, &board, ended, crew);
     drop(board);
@@ -258,35 +244,31 @@ fn no_ends(alloc: Global, form: Form, nodes: usize) -> Result<Ends, AllocError> 
 /// Where there is a report, it has an end for each node, and its status is 0 only where each of them is up to date or made. The
 /// last told record of each built node is a 'done', and that node is done with its commands whatever power cut comes, if the
 /// disk keeps its model and no call of it has failed.
-pub fn run<R, D, E, S, P, B>(
-    rt: &R,
+pub fn run<M: Outside, D: Disk + Drop + Send, B: Bank + Drop + Send>(
+    rt: &M::Runtime,
     alloc: Global,
-    graph: &Graph,
+    parts: &Parts<'_, M::Exec, M::Say, M::Place>,
     conduct: &Conduct,
     site: SiteIn<D>,
     banks: Vec<B>,
-    key: HashKey,
-    exec: &E,
-    say: &S,
-    place: &P,
 ) -> (Result<Report, RunFault>, Closed<D>)
-where
-    R: Threads + Wait + Sync,
-    D: Disk + Drop + Send,
-    E: Exec<Receipt> + Sync,
-    S: Say + Sync,
-    P: Place + Sync,
-    B: Bank + Drop + Send,
     ensures folded { result.1.site.state ≡ replay result.1.site.opening result.1.site.told }
-    ensures ends { IfOk result.0 (λ r. length r.ends.items ≡ length graph.now.nodes.items) }
+    ensures ends { IfOk result.0 (λ r. length r.ends.items ≡ length parts.now.graph.now.nodes.items) }
     ensures status { IfOk result.0 (λ r. r.status ≤ 2) }
     ensures well { IfOk result.0 (λ r. r.status ≡ 0 → IsTrue (list_all ends_well r.ends.items)) }
     ensures newest { IfOk result.0 (λ r. result.1.site.newest ≡ conduct.now.form) }
     ensures same { IfOk result.0 (λ r. conduct.now.form ≡ forms.Plain → r.same.items ≡ []) }
     ensures built { IfOk result.0 (λ r. (receipts : List Receipt) × AreThoseOf result.1.site.told receipts
         × AreTrueOf conduct.now.form result.1.site.told receipts (D.honest × (result.1.site.dead ≡ false)) (now (D.moments result.1.site.disk))
-        graph.now.names r.ends.items) }
+        parts.now.graph.now.names r.ends.items) }
 {
+    let Parts {
+        graph,
+        key,
+        exec,
+        say,
+        place,
+    } = *parts;
     let form = conduct.form;
     let Ok(board) = board_for(alloc, form, graph, banks.len()) else {
         drop(banks);
@@ -303,5 +285,5 @@ where
         board: Mutex::new(board),
     };
     let shop = Shop::new(graph, conduct, exec, say, place, key, flusher, ends);
-    run_to_close(rt, alloc, form, graph, shop, banks)
+    run_to_close::<M, D, B>(rt, alloc, form, graph, shop, banks)
 }

@@ -11,40 +11,37 @@ ghost use Rattle.jb_closing.specs.Agreement.{AreThoseOf};
 ghost use Rattle.jb_closing.specs.Closing.{AreTrueOf};
 ghost use Rattle.jb_closing.specs.Report.{ends_well, ComesTo};
 
-use crate::run;
+use crate::outside::{Outside, Parts};
+use crate::pool::run;
 use crate::served::run_as_server;
 use crate::serving::{Source, source_of};
-use bd_flusher::{Receipt, SiteIn};
-use bd_lists::Exec;
+use bd_flusher::SiteIn;
 use jb_closing::{Closed, Report, RunFault};
-use jb_recipe::{Conduct, Makeflags, News, Place, Say};
+use jb_recipe::{Conduct, Makeflags, News, Say};
 use jb_slots::{Banks, MemoryBank, MemoryPool};
 use mk_nodes::Graph;
 use st_disk::Disk;
-use st_records::HashKey;
 use std::alloc::{AllocError, Global};
 use std::sync::Wait;
-use std::thread::Threads;
-
-/// What a run is given beside its slots.
-#[derive(Drop)]
-pub struct Parts<'a, E, S, P> {
-    pub graph: &'a Graph,
-    pub key: HashKey,
-    pub exec: &'a E,
-    pub say: &'a S,
-    pub place: &'a P,
-}
 
 /// What is known of job slots before a run.
 #[derive(Clone, Copy)]
 pub struct Slotting<'a> {
     /// As it came, empty where there is none.
     pub makeflags: &'a [u8],
-    /// 1 to 256.
+    /// How many recipes are run at once at most, 1 to 256.
     pub workers: usize,
+    /// How many workers there are beside those, which wait for their turn where a makefile bounds how many of some recipes run at once.
+    pub waiting: usize,
     /// The absolute path of the pool that dmk would serve; empty where it can't be told.
     pub pool: &'a [u8],
+}
+
+impl Slotting<'_> {
+    /// How many workers there are.
+    pub(crate) fn all_workers(self) -> usize {
+        self.workers.saturating_add(self.waiting)
+    }
 }
 
 /// What a run comes to: its report or fault, and the closed site.
@@ -77,21 +74,15 @@ fn memory_ends<'a, R: Wait>(
 }
 
 /// A run whose slots are the implicit one and so many of a pool in memory.
-pub(crate) fn run_in_memory<R, D, E, S, P>(
-    rt: &R,
+pub(crate) fn run_in_memory<M: Outside, D: Disk + Drop + Send>(
+    rt: &M::Runtime,
     alloc: Global,
-    parts: &Parts<'_, E, S, P>,
+    parts: &Parts<'_, M::Exec, M::Say, M::Place>,
     conduct: &Conduct,
     site: SiteIn<D>,
     workers: usize,
     count: usize,
 ) -> Came<D>
-where
-    R: Threads + Wait + Sync,
-    D: Disk + Drop + Send,
-    E: Exec<Receipt> + Sync,
-    S: Say + Sync,
-    P: Place + Sync,
     ensures { ComesTo D.honest D.moments conduct.now.form parts.now.graph.now result.0 result.1.site }
 {
     let Ok(pool) = memory_pool(alloc, count) else {
@@ -100,25 +91,14 @@ where
     let Ok(ends) = memory_ends(rt, alloc, &pool, workers, parts.graph.len()) else {
         return no_memory(site);
     };
-    run(
-        rt,
-        alloc,
-        parts.graph,
-        conduct,
-        site,
-        ends,
-        parts.key,
-        parts.exec,
-        parts.say,
-        parts.place,
-    )
+    run::<M, D, MemoryBank<'_, M::Runtime>>(rt, alloc, parts, conduct, site, ends)
 }
 
 /// A run over the pool of a path, if it can be opened; else the site comes back.
-pub(crate) fn run_over_pool<R, D, E, S, P, K>(
-    rt: &R,
+pub(crate) fn run_over_pool<M: Outside, D: Disk + Drop + Send, K: Banks>(
+    rt: &M::Runtime,
     alloc: Global,
-    parts: &Parts<'_, E, S, P>,
+    parts: &Parts<'_, M::Exec, M::Say, M::Place>,
     conduct: &Conduct,
     site: SiteIn<D>,
     workers: usize,
@@ -126,58 +106,35 @@ pub(crate) fn run_over_pool<R, D, E, S, P, K>(
     path: &[u8],
 ) -> Result<Came<D>, SiteIn<D>>
 where
-    R: Threads + Wait + Sync,
-    D: Disk + Drop + Send,
-    E: Exec<Receipt> + Sync,
-    S: Say + Sync,
-    P: Place + Sync,
-    K: Banks,
     K::End: Drop + Send,
     ensures { IfOk result (λ came. ComesTo D.honest D.moments conduct.now.form parts.now.graph.now came.0 came.1.site) }
 {
     match banks.open(alloc, path, workers, parts.graph.len()) {
-        Ok(Some(ends)) => Ok(run(
-            rt,
-            alloc,
-            parts.graph,
-            conduct,
-            site,
-            ends,
-            parts.key,
-            parts.exec,
-            parts.say,
-            parts.place,
-        )),
+        Ok(Some(ends)) => Ok(run::<M, D, K::End>(rt, alloc, parts, conduct, site, ends)),
         Ok(None) => Err(site),
         Err(_) => Ok(no_memory(site)),
     }
 }
 
 /// A run of one worker, with the implicit slot.
-fn run_alone<R, D, E, S, P>(
-    rt: &R,
+fn run_alone<M: Outside, D: Disk + Drop + Send>(
+    rt: &M::Runtime,
     alloc: Global,
-    parts: &Parts<'_, E, S, P>,
+    parts: &Parts<'_, M::Exec, M::Say, M::Place>,
     conduct: &mut Conduct,
     site: SiteIn<D>,
 ) -> Came<D>
-where
-    R: Threads + Wait + Sync,
-    D: Disk + Drop + Send,
-    E: Exec<Receipt> + Sync,
-    S: Say + Sync,
-    P: Place + Sync,
     ensures { ComesTo D.honest D.moments conduct.old.form parts.now.graph.now result.0 result.1.site }
 {
     conduct.makeflags = Makeflags::Removed;
-    run_in_memory(rt, alloc, parts, conduct, site, 1, 0)
+    run_in_memory::<M, D>(rt, alloc, parts, conduct, site, 1, 0)
 }
 
 /// A run over the pool of a path that MAKEFLAGS names, or alone where it can't be opened.
-fn run_as_client<R, D, E, S, P, K>(
-    rt: &R,
+fn run_as_client<M: Outside, D: Disk + Drop + Send, K: Banks>(
+    rt: &M::Runtime,
     alloc: Global,
-    parts: &Parts<'_, E, S, P>,
+    parts: &Parts<'_, M::Exec, M::Say, M::Place>,
     conduct: &mut Conduct,
     site: SiteIn<D>,
     workers: usize,
@@ -185,81 +142,65 @@ fn run_as_client<R, D, E, S, P, K>(
     path: &[u8],
 ) -> Came<D>
 where
-    R: Threads + Wait + Sync,
-    D: Disk + Drop + Send,
-    E: Exec<Receipt> + Sync,
-    S: Say + Sync,
-    P: Place + Sync,
-    K: Banks,
     K::End: Drop + Send,
     ensures { ComesTo D.honest D.moments conduct.old.form parts.now.graph.now result.0 result.1.site }
 {
     conduct.makeflags = Makeflags::HandedOn;
-    match run_over_pool(rt, alloc, parts, conduct, site, workers, banks, path) {
+    match run_over_pool::<M, D, K>(rt, alloc, parts, conduct, site, workers, banks, path) {
         Ok(came) => came,
         Err(site) => {
             parts.say.tell(News::SlotsUnused);
-            run_alone(rt, alloc, parts, conduct, site)
+            run_alone::<M, D>(rt, alloc, parts, conduct, site)
         }
     }
 }
 
 /// A run with slots from where MAKEFLAGS says.
-fn run_by_source<R, D, E, S, P, K>(
-    rt: &R,
+fn run_by_source<M: Outside, D: Disk + Drop + Send, K: Banks>(
+    rt: &M::Runtime,
     alloc: Global,
-    parts: &Parts<'_, E, S, P>,
+    parts: &Parts<'_, M::Exec, M::Say, M::Place>,
     conduct: &mut Conduct,
     site: SiteIn<D>,
     slotting: Slotting<'_>,
     banks: &mut K,
 ) -> Came<D>
 where
-    R: Threads + Wait + Sync,
-    D: Disk + Drop + Send,
-    E: Exec<Receipt> + Sync,
-    S: Say + Sync,
-    P: Place + Sync,
-    K: Banks,
     K::End: Drop + Send,
     ensures came { ComesTo D.honest D.moments conduct.old.form parts.now.graph.now result.0 result.1.site }
     ensures let_go { K.serves banks.old ≡ false → K.serves banks.new ≡ false }
 {
-    let workers = slotting.workers;
-    match source_of(slotting.makeflags, workers) {
-        Source::Server => run_as_server(rt, alloc, parts, conduct, site, slotting, banks),
+    match source_of(slotting.makeflags, slotting.workers) {
+        Source::Server => run_as_server::<M, D, K>(
+            rt, alloc, parts, conduct, site, slotting, banks,
+        ),
         Source::Client(path) => {
-            run_as_client(rt, alloc, parts, conduct, site, workers, banks, path)
+            let workers = slotting.all_workers();
+            run_as_client::<M, D, K>(rt, alloc, parts, conduct, site, workers, banks, path)
         }
-        Source::Alone => run_alone(rt, alloc, parts, conduct, site),
+        Source::Alone => run_alone::<M, D>(rt, alloc, parts, conduct, site),
         Source::Unused => {
             parts.say.tell(News::SlotsUnused);
-            run_alone(rt, alloc, parts, conduct, site)
+            run_alone::<M, D>(rt, alloc, parts, conduct, site)
         }
     }
 }
 
 /// Makes what the graph's goals need, with job slots from where MAKEFLAGS says: as the client of a FIFO, as the server of one,
-/// or with the implicit slot, by one worker: another would write that it begins a recipe, and then wait. What recipes get of MAKEFLAGS follows from that, whatever `conduct` says of it. A pool that is
+/// or with the implicit slot, by one worker: another would write that it begins a recipe, and then wait. What recipes get of MAKEFLAGS follows from that, whatever `conduct` says of it, and how many of them run at once. A pool that is
 /// served for the run is let go at its end.
 ///
 /// The report and the closed site are as those of `run`.
-pub fn run_slotted<R, D, E, S, P, K>(
-    rt: &R,
+pub fn run_slotted<M: Outside, D: Disk + Drop + Send, K: Banks>(
+    rt: &M::Runtime,
     alloc: Global,
-    parts: &Parts<'_, E, S, P>,
+    parts: &Parts<'_, M::Exec, M::Say, M::Place>,
     conduct: Conduct,
     site: SiteIn<D>,
     slotting: Slotting<'_>,
     banks: &mut K,
 ) -> (Result<Report, RunFault>, Closed<D>)
 where
-    R: Threads + Wait + Sync,
-    D: Disk + Drop + Send,
-    E: Exec<Receipt> + Sync,
-    S: Say + Sync,
-    P: Place + Sync,
-    K: Banks,
     K::End: Drop + Send,
     ensures folded { result.1.site.state ≡ replay result.1.site.opening result.1.site.told }
     ensures ends { IfOk result.0 (λ r. length r.ends.items ≡ length parts.now.graph.now.nodes.items) }
@@ -273,7 +214,8 @@ where
     ensures let_go { K.serves banks.old ≡ false → K.serves banks.new ≡ false }
 {
     let mut conduct = conduct;
-    let came = run_by_source(rt, alloc, parts, &mut conduct, site, slotting, banks);
+    conduct.at_once = slotting.workers;
+    let came = run_by_source::<M, D, K>(rt, alloc, parts, &mut conduct, site, slotting, banks);
     drop(conduct);
     came
 }

@@ -17,7 +17,7 @@ returns-then-keeps_state-clause-makes g c =
     let environment = c.args.means.now.environment.now in
     let items = c.args.items.items in
     let is = rw c.deref.ensures.value at c.keeps_state.ensures in
-    subst (λ k. IfOk c.run_over.result.0 (λ s. (looks : List ℕ → Option FileLook) → g.T.Tree.allows c.run_over.new.tree looks →
+    subst (λ k. IfOk c.run_over.result.0 (λ s. (looks : List ℕ → Option FileLook) → g.M.Tree.Tree.allows c.run_over.new.tree looks →
     MakesItems c.args.goals.profile c.args.goals.definitions.items environment c.args.goals.targets c.args.wishes.now.makes_all c.args.wishes.now.goes_on (unwrap_or c.args.goals.behind none_tried)
     looks items k k g.D.Disk.honest (g.D.Disk.seen c.args.disk) s (now (g.D.Disk.moments c.run_over.result.1)) (tried_in c.run_over.result.2)))
     (sym c.if-keeps_state.true ∙ is) c.run_over.ensures.makes
@@ -29,7 +29,7 @@ returns-clause-makes g c =
     let seen = g.D.Disk.seen c.args.disk in
     let sides = now (g.D.Disk.moments c.args.disk) in
     let is = rw c.deref.ensures.value at c.keeps_state.ensures in
-    each_ok c.run_over-found.result.0 (g.T.Tree.allows c.run_over-found.new.tree)
+    each_ok c.run_over-found.result.0 (g.M.Tree.Tree.allows c.run_over-found.new.tree)
     (λ looks s. MakesItems c.args.goals.profile c.args.goals.definitions.items environment c.args.goals.targets c.args.wishes.now.makes_all c.args.wishes.now.goes_on (unwrap_or c.args.goals.behind none_tried)
     looks items (keeps environment items) (keeps environment items) g.D.Disk.honest seen s sides (tried_in c.run_over-found.result.2))
     (λ looks may.

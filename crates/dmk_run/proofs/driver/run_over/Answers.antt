@@ -28,7 +28,7 @@ returns-in-Ok-planned-clause-makes g c =
     let before = unwrap_or c.args.goals.behind none_tried in
     let seen = g.D.Disk.seen c.args.disk in
     let sides = now (g.D.Disk.moments c.make.result.1) in
-    each_ok c.make.result.0 (g.T.Tree.allows c.planned.new.tree)
+    each_ok c.make.result.0 (g.M.Tree.Tree.allows c.planned.new.tree)
     (λ looks s. MakesItems profile definitions environment targets c.args.wishes.now.makes_all c.args.wishes.now.goes_on before looks items true c.args.keeping g.D.Disk.honest seen s sides (tried_in c.make.result.2))
     (λ looks may.
     let (graph, is_graph, all_made, is_judged) = c.in-Ok-planned.ensures.graph looks may in

@@ -25,9 +25,9 @@ loop-targets-preserved g c =
       in_turn = next_made _ c.args.options.now.goes_on c.args.parts.now c.loop-targets.targets-index c.targets-item.result (c.args.disk, none_tried)
           (c.loop-targets.disk, c.loop-targets.tried) (c.lost_made-behind.result.1, c.lost_made-behind.new.tried) c.loop-targets.found c.lost_made-behind.result.0 c.joined-found.result c.loop-targets-test.true c.targets-item.is
           c.joined-found.ensures.both c.loop-targets.invariant.in_turn goes own;
-      untouched = leaves_both (λ source world. g.I.Includes.allows source world) (λ tree looks. g.T.Tree.allows tree looks) c.args.means.now.environment.now
+      untouched = leaves_both (λ source world. g.M.Includes.Includes.allows source world) (λ tree looks. g.M.Tree.Tree.allows tree looks) c.args.means.now.environment.now
           c.args.options.now c.args.disk c.loop-targets.disk c.lost_made-behind.result.1 c.loop-targets.invariant.untouched
-          (leaves_both (λ source world. g.I.Includes.allows source world) (λ tree looks. g.T.Tree.allows tree looks) c.args.means.now.environment.now
+          (leaves_both (λ source world. g.M.Includes.Includes.allows source world) (λ tree looks. g.M.Tree.Tree.allows tree looks) c.args.means.now.environment.now
           c.args.options.now c.loop-targets.disk c.made_part-ran.result.1 c.lost_made-behind.result.1 c.made_part-ran.ensures.untouched
           c.lost_made-behind.ensures.untouched);
       let_go = λ none. c.lost_made-behind.ensures.let_go (c.made_part-ran.ensures.let_go (c.loop-targets.invariant.let_go none));
