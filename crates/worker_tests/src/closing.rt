@@ -1,15 +1,13 @@
 //! Reports that are handed in behind a run: those that are true of its store pass.
 
-use crate::boards::look;
-use crate::makefiles::{Asked, graph};
 use crate::runs::made;
-use crate::states::new_store;
 use crate::way::ALONE;
 use bd_flusher::{FlushFault, Receipt, SiteIn};
 use bd_ledger::Ticket;
 use bd_places::End;
 use jb_closing::{Closed, Report, RunFault};
 use mk_nodes::Graph;
+use run_doubles::{Asked, graph, look, new_store};
 use st_disk::Disk;
 use st_records::Form;
 use std::alloc::{AllocError, Global};

@@ -1,10 +1,10 @@
 //! How often include lines ask for files.
 
 use crate::expected::expect;
-use crate::folder::{File, Folder};
 use mk_eval::read_makefile;
 use mk_macros::Macros;
 use mk_profile::Profile;
+use run_doubles::{File, Folder};
 use std::alloc::{AllocError, Global};
 use std::test::Fail;
 

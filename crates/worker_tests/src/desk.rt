@@ -2,8 +2,8 @@
 
 use crate::fake::Fake;
 use jb_marks::{Sight, Sights};
-use jb_recipe::{Place, PlaceFault, Stopped};
-use std::alloc::Global;
+use jb_recipe::{Place, PlaceFault, Stopped, Turn};
+use std::alloc::{AllocError, Global};
 use std::io::{self, ErrorKind};
 use std::sync::Wait;
 use std::time::Clock;
@@ -24,6 +24,12 @@ impl<R: Wait + Clock + Copy> Sights for Fake<R> {
 
 impl<R: Wait + Clock + Copy> Place for Fake<R> {
     ghost gone = { λ fake path. Unit {0} };
+
+    fn enter(&self, _turn: Turn) -> Result<bool, AllocError> {
+        Ok(false)
+    }
+
+    fn leave(&self, _turn: Turn) {}
 
     fn remove(&self, path: &[u8]) -> io::Result<()> {
         self.say(b"~remove ", path);

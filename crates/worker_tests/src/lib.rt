@@ -1,10 +1,8 @@
-//! What no program and no row can show of workers: batches that threads share, growths in vain, reports that aren't true, devices that
+//! What no program and no row can show of workers: recipes that run at once, growths in vain, reports that aren't true, devices that
 //! stop, and how often included files are read. Runs go over memory: a makefile, files by their times, a state on a memory disk, recipe
 //! lines answered by their text.
 #![tactic(auto)]
 
-#[cfg(test)]
-mod boards;
 #[cfg(test)]
 mod closing;
 #[cfg(test)]
@@ -16,13 +14,7 @@ mod expected;
 #[cfg(test)]
 mod fake;
 #[cfg(test)]
-mod flush_growths;
-#[cfg(test)]
-mod folder;
-#[cfg(test)]
 mod lines;
-#[cfg(test)]
-mod makefiles;
 #[cfg(test)]
 mod pool;
 #[cfg(test)]
@@ -31,10 +23,6 @@ mod refused;
 mod run_growths;
 #[cfg(test)]
 mod runs;
-#[cfg(test)]
-mod sharing;
-#[cfg(test)]
-mod states;
 #[cfg(test)]
 mod stopped_devices;
 #[cfg(test)]

@@ -4,10 +4,7 @@
 ghost use Rattle.std.specs.Prelude.{◌≡◌, IfOk, IfErr};
 ghost use Rattle.st_records.specs.declared.record.Record.TheVariants as records;
 
-use crate::boards::{begun, board, flush, look, submitted, take_in};
 use crate::fake::{Fake, Notes, TokenEnd};
-use crate::makefiles::Asked;
-use crate::states::{new_store, site_of};
 use crate::way::ALONE;
 use bd_flusher::{Receipt, SiteIn};
 use bd_links::Node;
@@ -17,6 +14,7 @@ use jb_recipe::{Ran, Spoken, run_recipe};
 use jb_slots::{Slot, Slots};
 use mk_profile::Profile;
 use mk_recipe::split_line;
+use run_doubles::{Asked, begun, board, flush, look, new_store, site_of, submitted, take_in};
 use st_disk::Disk;
 use st_recovery::StoreIn;
 use std::alloc::Global;
@@ -119,6 +117,7 @@ fn tried<R: Wait + Clock + Copy>(
         say: fake,
         target: b"t",
         tells_failed: true,
+        goes: false,
     };
     run_recipe(alloc, clearance, recipe, None, fake, slot, &spoken)
 }

@@ -3,10 +3,9 @@
 //! the state. Where that allocation is one of the preparations, the test ends with `OutOfMemory`. That a run to which
 //! nothing is refused makes all is for the other tests.
 
-use crate::makefiles::Asked;
 use crate::runs::{Came, made};
-use crate::states::new_store;
 use crate::way::{ALONE_WITH_K, Way};
+use run_doubles::{Asked, new_store};
 use st_disk::Disk;
 use st_memory::MemDisk;
 use st_records::Phase;

@@ -1,17 +1,16 @@
 //! One run over memory, and what came of it.
 
 use crate::fake::{Fake, Notes, TokenEnd};
-use crate::makefiles::{Asked, graph};
-use crate::states::site_of;
 use crate::way::Way;
 use bd_flusher::SiteIn;
 use bd_lists::Variable;
 use byte_strings::ByteString;
 use jb_closing::{Closed, Report, RunFault};
 use jb_recipe::{Conduct, Makeflags};
-use jb_runner::run;
+use jb_runner::{Parts, run};
 use mk_nodes::Graph;
 use mk_plan::Telling;
+use run_doubles::{Asked, graph, site_of};
 use st_disk::Disk;
 use st_records::{Form, HashKey};
 use st_recovery::StoreIn;
@@ -88,8 +87,16 @@ fn run_by<R: Threads + Wait + Clock + Sync + Copy, D: Disk + Drop + Send>(
     fake: &Fake<R>,
 ) -> Ended<D> {
     let Given { graph, conduct, .. } = given;
-    let (alloc, key) = (fake.alloc, HashKey::fixed());
-    run(rt, alloc, graph, conduct, site, ends, key, fake, fake, fake)
+    let parts = Parts {
+        graph,
+        key: HashKey::fixed(),
+        exec: fake,
+        say: fake,
+        place: fake,
+    };
+    run::<(R, Fake<R>, Fake<R>, Fake<R>), D, TokenEnd<'_, R>>(
+        rt, fake.alloc, &parts, conduct, site, ends,
+    )
 }
 
 fn run_over<R: Threads + Wait + Clock + Sync + Copy, D: Disk + Drop + Send>(
@@ -114,6 +121,7 @@ fn conduct(alloc: Global, way: &Way) -> Result<Conduct, AllocError> {
         telling: Telling::Nothing,
         definitions: Vec::<Variable>::new(alloc),
         makeflags: Makeflags::Removed,
+        at_once: way.workers,
         state_name: ByteString::from_slice(alloc, b".make.state")?,
     })
 }

@@ -1,10 +1,8 @@
 //! A device that stops in the midst of a run over what an earlier run left: a recipe that was run is listed again.
 
-use crate::folder::File;
-use crate::makefiles::{Asked, lists_any};
 use crate::runs::{Came, made};
-use crate::states::{new_store, opened};
 use crate::way::{ALONE, SIDE_BY_SIDE, Way};
+use run_doubles::{Asked, File, lists_any, new_store, opened};
 use st_disk::Disk;
 use st_doubles::Fuse;
 use st_memory::MemDisk;

@@ -2,12 +2,11 @@
 
 use crate::expected::expect;
 use crate::fake::Notes;
-use crate::makefiles::Asked;
 use crate::runs::{Came, made};
-use crate::states::{listing, new_store};
 use crate::way::{ALONE, SIDE_BY_SIDE, Way};
 use byte_strings::ByteString;
 use jb_recipe::PlaceFault;
+use run_doubles::{Asked, listing, new_store};
 use st_disk::Disk;
 use std::alloc::{AllocError, Global};
 use std::process::Abort;

@@ -1,12 +1,11 @@
 //! Each growth refused in turn. Under `rt try --test --fail-alloc N` the Nth allocation of each test is refused. Where
 //! that is one of its preparations, the test ends with a failure that says so.
 
-use crate::boards::{acknowledged, board, flush, submitted, take_in};
-use crate::makefiles::Asked;
-use crate::states::{opened, site_of};
+use crate::acknowledged::acknowledged;
 use bd_flusher::{FlushFault, FlusherIn, Receipt, SiteIn};
 use bd_ledger::Ticket;
 use bd_lists::BoardIn;
+use run_doubles::{Asked, board, flush, opened, site_of, submitted, take_in};
 use st_disk::Disk;
 use st_doubles::Fuse;
 use st_memory::MemDisk;

@@ -5,7 +5,7 @@ ghost use Rattle.st_records.specs.declared.record.Record.TheVariants as records;
 ghost use Rattle.st_records.specs.declared.version.Version.TheVariants as versions;
 
 use crate::makefiles::{Asked, graph};
-use bd_flusher::{FlushFault, FlusherIn, Receipt, SiteIn};
+use bd_flusher::{FlushFault, Receipt, SiteIn};
 use bd_ledger::Ticket;
 use bd_links::Node;
 use bd_lists::BoardIn;
@@ -15,9 +15,9 @@ use st_disk::Disk;
 use st_records::{Form, Record};
 use st_state::State;
 use std::alloc::Global;
-use std::sync::Wait;
 use std::test::Fail;
 
+/// The board of what is asked, over a state.
 pub fn board(alloc: Global, asked: &Asked, state: &State) -> Result<BoardIn<Receipt>, Fail> {
     let graph = graph(alloc, asked, state)?;
     Ok(board_of(alloc, Form::Plain, &graph)?)
@@ -61,6 +61,7 @@ pub fn submitted(
     Some((node, ticket))
 }
 
+/// Takes in what the board has to be written.
 pub fn take_in<D: Disk + Drop>(
     alloc: Global,
     site: &mut SiteIn<D>,
@@ -69,6 +70,7 @@ pub fn take_in<D: Disk + Drop>(
     site.take_in(alloc, board)
 }
 
+/// Writes what was taken in, as a batch.
 pub fn flush<D: Disk + Drop>(alloc: Global, site: &mut SiteIn<D>) -> Result<(), FlushFault> {
     site.flush(alloc)
 }
@@ -80,22 +82,5 @@ pub fn look<D: Disk + Drop>(site: &SiteIn<D>, ticket: Ticket, note: Record) -> R
     match site.look(ticket, note) {
         Ok(receipt) => Ok(receipt),
         Err(_note) => Err("another record was told there".into()),
-    }
-}
-
-/// The batch of a target's record, once it was written.
-pub fn acknowledged<R: Wait, D: Disk + Drop>(
-    rt: &R,
-    alloc: Global,
-    flusher: &FlusherIn<D>,
-    target: &[u8],
-    ticket: Ticket,
-) -> Result<usize, FlushFault> {
-    let Some(note) = begun(alloc, target) else {
-        return Err(FlushFault::OutOfMemory);
-    };
-    match flusher.acknowledge(rt, alloc, ticket, note) {
-        Ok(receipt) => Ok(receipt.batch()),
-        Err(fault) => Err(fault),
     }
 }

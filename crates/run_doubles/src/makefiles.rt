@@ -19,6 +19,7 @@ pub struct Asked {
     pub files: &'static [File],
 }
 
+/// The graph of what is asked, over a state.
 pub fn graph(alloc: Global, asked: &Asked, state: &State) -> Result<Graph, Fail> {
     let mut folder = Folder::new(asked.files);
     let mut macros = Macros::new(alloc, Profile::Strict);

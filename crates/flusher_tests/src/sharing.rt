@@ -1,10 +1,9 @@
 //! Records that are submitted while a batch is written share the next one.
 
-use crate::boards::{acknowledged, board, submitted};
-use crate::makefiles::Asked;
-use crate::states::{opened, site_of};
+use crate::acknowledged::acknowledged;
 use bd_flusher::FlusherIn;
 use bd_ledger::Ticket;
+use run_doubles::{Asked, board, opened, site_of, submitted};
 use st_disk::{DeviceFault, Disk, Which};
 use st_memory::MemDisk;
 use st_records::Form;

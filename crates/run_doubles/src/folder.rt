@@ -1,6 +1,6 @@
 //! A folder in memory, whose files and texts are told as they stand.
 ghost use Rattle.std.specs.Prelude.{◌≡◌, ℕ, List, [], None, find, bytes_eq, length, option_map, option_copied, refl};
-ghost use Rattle.worker_tests.specs.Looks.{look_at};
+ghost use Rattle.run_doubles.specs.Looks.{look_at};
 
 use byte_strings::ByteStrings;
 use mk_eval::Includes;
@@ -22,6 +22,7 @@ pub struct Folder {
 }
 
 impl Folder {
+    /// A folder of these files, of which none was asked for.
     pub fn new(files: &'static [File]) -> Folder {
         Folder { files, reads: 0 }
     }

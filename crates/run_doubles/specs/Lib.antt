@@ -1,0 +1,2 @@
+-- The model is Looks: looks at files in memory.
+pub mod Looks
