@@ -7,9 +7,9 @@ use Rattle.mk_macros.specs.Ranks.{defined_by}
 use Rattle.mk_profile.specs.Profile.{is_wide}
 use Rattle.mk_rule_lines.specs.Explicit.{numbers_of}
 use Rattle.mk_rule_lines.specs.Rules.{suffixes_of}
-use Rattle.mk_rule_lines.specs.Table.{named_at}
+use Rattle.mk_makefile.specs.Table.{named_at}
 use Rattle.mk_rule_lines.specs.declared.rule_line.RuleLine.{RuleLine}
-use Rattle.mk_rule_lines.specs.declared.table.TargetTable.{TargetTable}
+use Rattle.mk_makefile.specs.declared.table.TargetTable.{TargetTable}
 use Rattle.mk_nodes.specs.Node.{EachHasOneNumber}
 use Rattle.mk_nodes.specs.declared.graph.Graph.{Graph}
 use Rattle.st_state.specs.State.{StateMap}

@@ -4,10 +4,11 @@ use Rattle.mk_profile.specs.declared.profile.Profile.{Profile}
 use Rattle.mk_profile.specs.declared.profile.Profile.TheVariants.{Strict, Posix}
 use Rattle.std.specs.List.{list_any}
 use Rattle.mk_reader.specs.declared.item.Item.{Item}
-use Rattle.mk_rule_lines.specs.Goals.{is_keep_state, has_special}
+use Rattle.mk_settings.specs.Goals.{is_keep_state}
+use Rattle.mk_rule_lines.specs.Rules.{has_special}
 use Rattle.mk_macros.specs.Ranks.{Defined}
-use Rattle.mk_rule_lines.specs.InForce.{AreInForce, AreLinesInForce}
-use Rattle.mk_rule_lines.proofs.InForceLemmas.{special_left}
+use Rattle.mk_makefile.specs.InForce.{AreInForce, AreLinesInForce}
+use Rattle.mk_makefile.proofs.InForceLemmas.{special_left}
 use Rattle.mk_rule_lines.specs.Lines.{AreRuleLines, no_items, behind_definition, a_rule, a_special}
 use Rattle.mk_rule_lines.specs.Rules.{suffixes_of}
 use Rattle.mk_rule_lines.specs.declared.rule_line.RuleLine.{RuleLine}

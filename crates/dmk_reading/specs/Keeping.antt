@@ -8,7 +8,7 @@ use Rattle.st_records.specs.declared.version.Form.{Form}
 use Rattle.st_records.specs.declared.version.Form.TheVariants.{Plain, Marked}
 use Rattle.mk_reader.specs.declared.item.Item.{Item}
 use Rattle.mk_reader.specs.declared.item.Item.TheVariants as item
-use Rattle.mk_rule_lines.specs.Goals.{is_keep_state}
+use Rattle.mk_settings.specs.Goals.{is_keep_state}
 use Rattle.bd_lists.specs.declared.recipe.Variable.{Variable}
 
 -- the variable has this name

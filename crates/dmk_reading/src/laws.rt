@@ -2,10 +2,11 @@
 ghost use Rattle.std.specs.Prelude.{◌≡◌, ℕ, List, Option};
 ghost use Rattle.std.specs.List.{list_any};
 ghost use Rattle.mk_reader.specs.declared.item.Item.{Item};
-ghost use Rattle.mk_rule_lines.specs.Goals.{is_keep_state, has_special};
+ghost use Rattle.mk_settings.specs.Goals.{is_keep_state};
+ghost use Rattle.mk_rule_lines.specs.Rules.{has_special};
 ghost use Rattle.mk_nodes.specs.Graph.{IsGraph};
 ghost use Rattle.mk_macros.specs.Ranks.{Defined};
-ghost use Rattle.mk_rule_lines.specs.InForce.{AreLinesInForce};
+ghost use Rattle.mk_makefile.specs.InForce.{AreLinesInForce};
 ghost use Rattle.mk_nodes.specs.Prerequisites.{Inputs};
 ghost use Rattle.mk_nodes.specs.declared.graph.Graph.{Graph};
 ghost use Rattle.mk_rule_lines.specs.declared.rule_line.RuleLine.{RuleLine};

@@ -7,7 +7,7 @@ use Rattle.mk_macros.specs.declared.definitions.Rank.{Rank}
 use Rattle.mk_macros.specs.declared.definitions.Rank.TheVariants.{Makefile}
 use Rattle.mk_reader.specs.declared.item.Item.{Item}
 use Rattle.mk_reader.specs.declared.item.Item.TheVariants as item
-use Rattle.mk_reader.proofs.ReferenceLemmas.{either}
+use Rattle.mk_lines.proofs.ReferenceLemmas.{either}
 use Rattle.mk_macros.proofs.DefinitionLemmas.{in_language}
 use Rattle.mk_eval.specs.Makefile.{with_item, with_items, behind}
 

@@ -10,8 +10,8 @@ use Rattle.mk_macros.specs.Words.{place_of, is_byte}
 use Rattle.mk_macros.specs.Reference.{plain, first, behind_dollar, plain_until, front}
 use Rattle.mk_macros.specs.Expansion.{Meaning, Meanings, gives, limit, Expands, ends, goes_on, adds_bytes, ExpandsTo}
 use Rattle.mk_macros.proofs.PatternLemmas.{place_of-at}
-use Rattle.mk_reader.specs.Text.{is_dollar}
-use Rattle.mk_reader.proofs.ReferenceLemmas.{either, or_false}
+use Rattle.mk_lines.specs.Text.{is_dollar}
+use Rattle.mk_lines.proofs.ReferenceLemmas.{either, or_false}
 use Rattle.mk_eval.specs.Static.{doubled}
 
 -- the text is what stands before its first `$`, and the rest

@@ -11,7 +11,7 @@ use Rattle.mk_eval.specs.Listed.{found_in, listed, listed_text, stepped}
 use Rattle.mk_eval.specs.Short.{has_other_names, renamed}
 use Rattle.mk_eval.specs.Static.{doubled}
 use Rattle.mk_eval.proofs.MakefileLemmas.{names_stand}
-use Rattle.mk_reader.specs.Text.{is_dollar}
+use Rattle.mk_lines.specs.Text.{is_dollar}
 use Rattle.mk_eval.specs.Makefile.{IsListedText}
 
 -- Lists of lists

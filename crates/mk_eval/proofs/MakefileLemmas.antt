@@ -6,7 +6,7 @@ use Rattle.mk_reader.specs.declared.fault.Refusal.{Refusal}
 use Rattle.mk_reader.specs.declared.fault.ReadFault.{ReadFault}
 use Rattle.mk_reader.specs.declared.fault.ReadFault.TheVariants.{OutOfMemory, Refused}
 use Rattle.std.specs.List.{list_any}
-use Rattle.mk_reader.specs.Text.{is_dollar}
+use Rattle.mk_lines.specs.Text.{is_dollar}
 use Rattle.mk_macros.specs.Expansion as expansion
 use Rattle.mk_macros.specs.Expansion.{Meanings, gives, fails, ExpandsTo, ExpandsToFault}
 use Rattle.mk_macros.specs.Ranks.{Defined, rule_meanings}

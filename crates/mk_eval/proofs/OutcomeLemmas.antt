@@ -13,9 +13,10 @@ use Rattle.mk_macros.specs.declared.dynamic.Dynamic.TheVariants.{RuleLine}
 use Rattle.mk_macros.proofs.OutcomeLemmas.{expands_once}
 use Rattle.mk_macros.proofs.SomeOutcomeLemmas.{outcome_some}
 use Rattle.mk_reader.specs.Special.{special_name}
-use Rattle.mk_reader.specs.Text.{is_dollar}
-use Rattle.mk_reader.specs.Grammar.{Without, refusal}
-use Rattle.mk_reader.specs.Quoted.{without_quoted}
+use Rattle.mk_lines.specs.Text.{is_dollar}
+use Rattle.mk_lines.specs.References.{Without}
+use Rattle.mk_reader.specs.Grammar.{refusal}
+use Rattle.mk_lines.specs.Quoted.{without_quoted}
 use Rattle.mk_reader.specs.Printed.{PlainItem, definition, rule, ArePlain, printed, next, after_recipe, definition_on, recipe_on, items_on}
 use Rattle.mk_reader.specs.declared.fault.Cause.TheVariants.{IncludeDepth, IncludeMissing, Macro}
 use Rattle.mk_reader.specs.declared.directive.Directive.TheVariants.{Vpath}
@@ -30,7 +31,7 @@ use Rattle.mk_reader.specs.declared.item.Rule.{Rule}
 use Rattle.mk_reader.specs.declared.item.IncludeLine.{IncludeLine}
 use Rattle.mk_reader.specs.declared.item.Statement.{Statement}
 use Rattle.mk_reader.specs.declared.item.Statement.TheVariants as statement
-use Rattle.mk_reader.proofs.ReferenceLemmas.{either}
+use Rattle.mk_lines.proofs.ReferenceLemmas.{either}
 use Rattle.mk_reader.proofs.StatementLemmas as reading
 use Rattle.mk_reader.proofs.WordLemmas.{special_is}
 use Rattle.mk_reader.proofs.PrintedItemsLemmas.{printed_read}

@@ -10,11 +10,11 @@ use Rattle.mk_macros.specs.Expansion as expansion
 use Rattle.mk_macros.specs.Expansion.{gives, fails, ExpandsTo}
 use Rattle.mk_macros.specs.Ranks.{Defined, rule_meanings}
 use Rattle.mk_macros.proofs.OutcomeLemmas.{expands_once}
-use Rattle.mk_reader.specs.Grammar.{Without, IsColonCut}
-use Rattle.mk_reader.specs.Quoted.{without_quoted}
-use Rattle.mk_reader.specs.Text.{is_dollar}
-use Rattle.mk_reader.specs.Form.{first_outside, Refuses}
-use Rattle.mk_reader.specs.declared.form.Place.TheVariants.{Outside}
+use Rattle.mk_lines.specs.References.{Without, first_outside}
+use Rattle.mk_lines.specs.Quoted.{IsColonCut, without_quoted}
+use Rattle.mk_lines.specs.Text.{is_dollar}
+use Rattle.mk_reader.specs.Form.{Refuses}
+use Rattle.mk_lines.specs.declared.reference.Place.TheVariants.{Outside}
 use Rattle.mk_reader.specs.declared.item.Item.{Item}
 use Rattle.mk_reader.specs.declared.item.Item.TheVariants as item
 use Rattle.mk_reader.specs.declared.item.Rule.{Rule}
@@ -26,9 +26,9 @@ use Rattle.mk_reader.specs.declared.fault.ReadFault.TheVariants.{OutOfMemory, Re
 use Rattle.mk_reader.specs.Special.{is_refused}
 use Rattle.mk_profile.specs.declared.profile.Profile.{Profile}
 use Rattle.mk_reader.specs.declared.fault.StaticCause.TheVariants.{NoPercent}
-use Rattle.mk_reader.proofs.ReferenceLemmas.{either, cut_found, none_found, Said, said}
-use Rattle.mk_reader.proofs.CutLemmas.{one_of, cut_left, cut_right}
-use Rattle.mk_reader.proofs.QuotedLemmas.{one_colon, no_colon, colon_found}
+use Rattle.mk_lines.proofs.ReferenceLemmas.{either, cut_found, none_found, Said, said}
+use Rattle.mk_lines.proofs.CutLemmas.{one_of, cut_left, cut_right}
+use Rattle.mk_lines.proofs.QuotedLemmas.{one_colon, no_colon, colon_found}
 use Rattle.mk_eval.specs.Static.{IsCutAt, name_macro, DefinesMacro, has_percent, pattern_fault, rule_for}
 use Rattle.mk_eval.specs.Output.{World}
 use Rattle.mk_eval.specs.Listed.{listed, listed_rule}

@@ -3,8 +3,8 @@ use Rattle.std.proofs.Common.{◌≡◌, ℕ, ◌+◌, Bool, true, false, cond, 
 use Rattle.std.specs.List.{list_any, position_or_len, before_first}
 use Rattle.byte_strings.specs.Blanks.{is_blank, first_word, words}
 use Rattle.byte_strings.proofs.WordLemmas.{words-cons}
-use Rattle.mk_reader.specs.Text.{is_backslash, begins_with}
-use Rattle.mk_reader.proofs.ReferenceLemmas.{either, or_false}
+use Rattle.mk_lines.specs.Text.{is_backslash, begins_with}
+use Rattle.mk_lines.proofs.ReferenceLemmas.{either, or_false}
 use Rattle.mk_short_names.specs.Short.{begins_here, behind_here, or_here, short_name}
 use Rattle.mk_eval.specs.Short.{has_quoted, has_other_names}
 

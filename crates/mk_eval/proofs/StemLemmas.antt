@@ -4,7 +4,7 @@ use denote.Ref.{Bor}
 use Rattle.std.proofs.lemmas.Bool.Decides.{Decides-eqb}
 use Rattle.std.proofs.lemmas.List.{take_at, drop_at, take-append-drop}
 use Rattle.std.proofs.lemmas.Slice.Eq.{bytes_eq-Decides}
-use Rattle.mk_reader.proofs.ReferenceLemmas.{either}
+use Rattle.mk_lines.proofs.ReferenceLemmas.{either}
 use Rattle.mk_eval.specs.Static.{is_percent, has_percent, with_stem}
 
 -- the head of a list

@@ -5,7 +5,7 @@ use Rattle.mk_profile.specs.declared.profile.Profile.TheVariants.{Posix}
 use Rattle.mk_short_names.specs.Short.{short_name}
 use Rattle.mk_reader.specs.Special.{special_name, is_refused}
 use Rattle.mk_reader.specs.declared.special.SpecialName.{SpecialName}
-use Rattle.mk_reader.specs.Text.{is_empty, ends_with}
+use Rattle.mk_lines.specs.Text.{is_empty, ends_with}
 use Rattle.mk_reader.specs.Grammar.{refusal}
 use Rattle.mk_reader.specs.declared.directive.Directive.TheVariants.{Vpath}
 use Rattle.mk_reader.specs.declared.fault.Cause.TheVariants.{Unsupported}

@@ -12,9 +12,10 @@ use Rattle.mk_macros.specs.Ranks.{Defined, in_force, with_definition, with_mark,
 use Rattle.mk_macros.specs.declared.definitions.Rank.TheVariants.{Makefile}
 use Rattle.mk_macros.specs.declared.fault.MacroFault.{MacroFault}
 use Rattle.mk_macros.specs.declared.fault.MacroFault.TheVariants as macro_fault
-use Rattle.mk_reader.specs.Text.{is_dollar, is_text}
-use Rattle.mk_reader.specs.Grammar.{Without, IsColonCut, refusal}
-use Rattle.mk_reader.specs.Quoted.{without_quoted}
+use Rattle.mk_lines.specs.Text.{is_dollar, is_text}
+use Rattle.mk_lines.specs.References.{Without}
+use Rattle.mk_lines.specs.Quoted.{IsColonCut, without_quoted}
+use Rattle.mk_reader.specs.Grammar.{refusal}
 use Rattle.mk_reader.specs.Special.{special_name, is_refused}
 use Rattle.mk_reader.specs.declared.special.SpecialName.{SpecialName}
 use Rattle.mk_reader.specs.Statements.{AreStatements}

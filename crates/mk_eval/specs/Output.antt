@@ -1,6 +1,6 @@
 -- What the outside answers while makefiles are read, and the text that a command's output gives a name.
 use Rattle.std.specs.Prelude.{ℕ, List, ◌∷◌, ◌++◌, codes, Option, map, reverse, if◌then◌else◌}
-use Rattle.mk_reader.specs.Text.{is_newline, begins_with, without_last}
+use Rattle.mk_lines.specs.Text.{is_newline, begins_with, without_last}
 use Rattle.mk_wildcards.specs.Found.{Folders}
 
 -- each file, by its name, that can be read holds this, each command writes this that a definition of this line of this file runs, and these

@@ -4,9 +4,9 @@ use Rattle.std.specs.List.{list_any}
 use Rattle.byte_strings.specs.Blanks.{words}
 use Rattle.mk_profile.specs.Profile.{is_wide}
 use Rattle.mk_profile.specs.declared.profile.Profile.{Profile}
-use Rattle.mk_reader.specs.Grammar.{Without}
-use Rattle.mk_reader.specs.Quoted.{without_quoted}
-use Rattle.mk_reader.specs.Text.{is_dollar, is_empty, ends_with}
+use Rattle.mk_lines.specs.References.{Without}
+use Rattle.mk_lines.specs.Quoted.{without_quoted}
+use Rattle.mk_lines.specs.Text.{is_dollar, is_empty, ends_with}
 use Rattle.mk_wildcards.specs.Pattern.{has_wildcard}
 use Rattle.mk_reader.specs.Printed.{PlainItem, definition, rule}
 use Rattle.mk_eval.specs.Judged.{opens_vpath, refused_among, searches}

@@ -2,7 +2,7 @@
 use Rattle.std.specs.Prelude.{ℕ, Bool, false, ◌&&◌, ◌||◌, List, [], ◌∷◌, flat_map, if◌then◌else◌}
 use Rattle.std.specs.List.{list_any}
 use Rattle.byte_strings.specs.Blanks.{words}
-use Rattle.mk_reader.specs.Text.{is_backslash, begins_with}
+use Rattle.mk_lines.specs.Text.{is_backslash, begins_with}
 use Rattle.mk_short_names.specs.Short.{begins_here, short_name}
 
 -- a backslash directly before a colon

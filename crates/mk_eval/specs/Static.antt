@@ -3,8 +3,8 @@
 use Rattle.std.specs.Prelude.{◌≡◌, ℕ, Bool, true, false, not, ◌&&◌, ◌||◌, ◌==◌, List, [], ◌∷◌, ◌++◌, flat_map, Option, Some, None, if◌then◌else◌}
 use Rattle.std.specs.List.{list_any, list_all}
 use Rattle.byte_strings.specs.Blanks.{words}
-use Rattle.mk_reader.specs.Text.{is_dollar, is_backslash, begins_with}
-use Rattle.mk_reader.specs.Grammar.{Whole}
+use Rattle.mk_lines.specs.Text.{is_dollar, is_backslash, begins_with}
+use Rattle.mk_lines.specs.References.{Whole}
 use Rattle.mk_reader.specs.declared.item.Rule.{Rule}
 use Rattle.mk_reader.specs.declared.fault.Cause.{Cause}
 use Rattle.mk_reader.specs.declared.fault.Cause.TheVariants.{Static, Unsupported}

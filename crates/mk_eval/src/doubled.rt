@@ -1,7 +1,7 @@
 //! Texts that aren't expanded again.
 ghost use Rattle.std.specs.Prelude.{◌≡◌, ◌≤◌, ◌++◌, length, IfOk, OnOk};
 ghost use Rattle.std.specs.List.{position_or_len};
-ghost use Rattle.mk_reader.specs.Text.{is_dollar};
+ghost use Rattle.mk_lines.specs.Text.{is_dollar};
 ghost use Rattle.mk_eval.specs.Static.{doubled_byte, doubled};
 
 use std::alloc::{AllocError, Global};

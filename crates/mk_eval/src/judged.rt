@@ -8,10 +8,11 @@ ghost use Rattle.mk_profile.specs.declared.profile.Profile.TheVariants.{Posix};
 ghost use Rattle.mk_eval.specs.Judged.{searches, changes_recipes, macro_refused, definition_refused, opens_vpath, refused_name, refused_among, rule_refused, item_refused, statement_refused, at_line, judged, all_judged};
 
 use byte_strings::{ByteString, first_word, next_word};
+use mk_lines::ends_with;
 use mk_profile::Profile;
 use mk_reader::{
-    Cause, Definition, Directive, Feature, Item, Refusal, Rule, SpecialName, Statement, ends_with,
-    is_refused, special_name,
+    Cause, Definition, Directive, Feature, Item, Refusal, Rule, SpecialName, Statement, is_refused,
+    special_name,
 };
 use mk_short_names::short_name;
 use std::alloc::{AllocError, Global};

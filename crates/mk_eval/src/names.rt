@@ -1,7 +1,7 @@
 //! The names on an include line, and what is defined for the lines below.
 ghost use Rattle.std.specs.Prelude.{◌≡◌, [], ◌∷◌, is_none, IfOk, IfErr, OnOk};
 ghost use Rattle.std.specs.List.{list_any};
-ghost use Rattle.mk_reader.specs.Text.{is_dollar};
+ghost use Rattle.mk_lines.specs.Text.{is_dollar};
 ghost use Rattle.mk_macros.specs.Expansion.{gives};
 ghost use Rattle.mk_macros.specs.Ranks.{defined_by};
 ghost use Rattle.mk_eval.specs.Makefile.{behind, fault_told, LineNames, IsNamesFault};

@@ -8,8 +8,9 @@ ghost use Rattle.mk_eval.specs.Makefile.{GivesItem, written_as, OutputItems, IsC
 use crate::includes::Includes;
 use crate::refuse::{refuse, refuse_text};
 use byte_strings::ByteString;
+use mk_lines::is_text;
 use mk_macros::{Dynamic, Macros};
-use mk_reader::{Cause, Definition, Item, ReadFault, is_text};
+use mk_reader::{Cause, Definition, Item, ReadFault};
 use std::alloc::{AllocError, Global};
 
 /// Without the newline at its end.

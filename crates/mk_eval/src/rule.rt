@@ -15,8 +15,9 @@ use crate::refuse::refuse;
 use crate::special_rule::plain_items;
 use crate::static_rule::static_items;
 use byte_strings::next_word;
+use mk_lines::{split_at_colon, split_outside};
 use mk_macros::Macros;
-use mk_reader::{Cause, Feature, Item, ReadFault, Rule, split_at_colon, split_outside};
+use mk_reader::{Cause, Feature, Item, ReadFault, Rule};
 use std::alloc::Global;
 
 fn is_sign(word: &[u8]) -> bool

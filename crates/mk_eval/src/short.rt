@@ -2,7 +2,7 @@
 ghost use Rattle.std.specs.Prelude.{◌≡◌, ◌++◌, IfOk, OnOk};
 ghost use Rattle.std.specs.List.{list_any};
 ghost use Rattle.byte_strings.specs.Blanks.{words};
-ghost use Rattle.mk_reader.specs.Text.{is_backslash};
+ghost use Rattle.mk_lines.specs.Text.{is_backslash};
 ghost use Rattle.mk_short_names.specs.Short.{begins_here};
 ghost use Rattle.mk_eval.specs.Short.{quotes_colon, has_quoted, unquoted, has_other_names, renamed};
 

@@ -2,7 +2,7 @@
 ghost use Rattle.std.specs.Prelude.{◌≡◌, ℕ, Bool, true, ◌∷◌, ◌++◌, ◌||◌, ◌&&◌, List, OnOk, IfOk, MatchOption};
 ghost use Rattle.std.specs.List.{list_any};
 ghost use Rattle.byte_strings.specs.Blanks.{words};
-ghost use Rattle.mk_reader.specs.Text.{begins_with};
+ghost use Rattle.mk_lines.specs.Text.{begins_with};
 ghost use Rattle.mk_eval.specs.Static.{is_percent, has_percent, with_stem, quotes_percent, prerequisites_with, pattern_fault};
 
 use byte_strings::next_word;

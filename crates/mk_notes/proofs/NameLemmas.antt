@@ -1,7 +1,7 @@
 -- Names that have no meaning elsewhere.
 use Rattle.std.proofs.Common.{◌≡◌, ℕ, Bool, true, false, ◌==◌, List, [], ◌∷◌, refl, sym, ap, ◌∙◌, true≢false}
 use Rattle.std.proofs.lemmas.Bool.{eqb-true}
-use Rattle.mk_reader.specs.Text.{begins_with}
+use Rattle.mk_lines.specs.Text.{begins_with}
 use Rattle.mk_notes.specs.Names.{is_target}
 
 -- a name that begins with no dot is none of these

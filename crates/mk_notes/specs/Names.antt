@@ -4,7 +4,7 @@ use Rattle.std.specs.List.{list_any, prefix_len}
 use Rattle.byte_strings.specs.Blanks.{words}
 use Rattle.mk_profile.specs.Profile.{is_wide}
 use Rattle.mk_profile.specs.declared.profile.Profile.{Profile}
-use Rattle.mk_reader.specs.Text.{is_empty}
+use Rattle.mk_lines.specs.Text.{is_empty}
 use Rattle.mk_notes.specs.References.{is_dollar}
 use Rattle.mk_notes.specs.declared.names.TheConstants.{TARGETS, MACROS, ASKING, RUN, COMMANDS, SUFFIXES}
 

@@ -4,7 +4,7 @@ use Rattle.std.specs.List.{list_any}
 use Rattle.byte_strings.specs.Blanks.{is_blank, first_word}
 use Rattle.mk_profile.specs.Profile.{is_wide}
 use Rattle.mk_profile.specs.declared.profile.Profile.{Profile}
-use Rattle.mk_reader.specs.Text.{is_empty, ends_with}
+use Rattle.mk_lines.specs.Text.{is_empty, ends_with}
 use Rattle.mk_reader.specs.declared.item.Item.{Item}
 use Rattle.mk_reader.specs.declared.item.Item.TheVariants as item
 use Rattle.mk_reader.specs.declared.item.RecipeLine.{RecipeLine}

@@ -2,7 +2,7 @@
 ghost use Rattle.std.specs.Prelude.{◌≡◌, ◌≤◌, length, bytes_eq};
 ghost use Rattle.std.specs.List.{list_any, prefix_len};
 ghost use Rattle.byte_strings.specs.Blanks.{words};
-ghost use Rattle.mk_reader.specs.Text.{begins_with};
+ghost use Rattle.mk_lines.specs.Text.{begins_with};
 ghost use Rattle.mk_notes.specs.Names.{has, is_target, is_macro, is_asking, is_macro_elsewhere, is_of_run, is_command, is_plain, parts_of, is_suffix_name, is_named_by};
 
 use byte_strings::Words;

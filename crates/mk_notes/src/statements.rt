@@ -11,9 +11,10 @@ use crate::note::{Note, Subject};
 use crate::notes::Notes;
 use crate::references::is_automatic;
 use byte_strings::{ByteString, first_word, is_blank};
+use mk_lines::ends_with;
 use mk_macros::Rank;
 use mk_profile::Profile;
-use mk_reader::{Definition, Item, RecipeLine, Rule, Special, SpecialName, Statement, ends_with};
+use mk_reader::{Definition, Item, RecipeLine, Rule, Special, SpecialName, Statement};
 use std::alloc::{AllocError, Global};
 
 /// A rule as suffix rules are written.

@@ -6,13 +6,9 @@ use Rattle.std.proofs.lemmas.List.{take-append-drop, take_at, reverse-append, re
 use Rattle.std.proofs.lemmas.List.Folds.{list_all-append}
 use Rattle.std.proofs.Math.Seq.{drop-append_seam}
 use Rattle.byte_strings.specs.Blanks.{is_blank, trimmed_start, trimmed_end, trimmed}
-use Rattle.mk_reader.specs.Text.{is_empty, begins_with}
-use Rattle.mk_reader.specs.Grammar.{AllBlank, begins_blank, Padded}
-use Rattle.mk_reader.proofs.ReferenceLemmas.{either, or_false}
-
-pub and_true : (a b : Bool) → (a && b) ≡ true → (a ≡ true) × (b ≡ true)
-and_true true b h = (refl, h)
-and_true false b h = absurd (cc h)
+use Rattle.mk_lines.specs.Text.{is_empty, begins_with}
+use Rattle.mk_reader.specs.Spelled.{AllBlank, begins_blank, Padded}
+use Rattle.mk_lines.proofs.ReferenceLemmas.{either, or_false, and_true}
 
 module _ (p : ℕ → Bool) where
   abbrev pub starts : List ℕ → Bool

@@ -5,14 +5,16 @@ use Rattle.std.proofs.lemmas.List.{reverse-append, take_at}
 use Rattle.byte_strings.specs.Blanks.{is_blank, trimmed}
 use Rattle.mk_profile.specs.Profile.{is_wide}
 use Rattle.mk_profile.specs.declared.profile.Profile.{Profile}
-use Rattle.mk_reader.specs.Text.{is_empty, begins_with, ends_with, without_last, without_plus}
-use Rattle.mk_reader.specs.Grammar.{SpellsName, is_name_byte, is_apart, IsConditional, IsSet}
-use Rattle.mk_reader.specs.Form.{first_outside, is_macro_name, conditional_at}
-use Rattle.mk_reader.specs.declared.form.Place.TheVariants.{Outside}
-use Rattle.mk_reader.proofs.ReferenceLemmas.{either, or_false, Said, said, cut_found}
-use Rattle.mk_reader.proofs.BlankLemmas.{and_true, trimmed_is, trimmed_padded}
-use Rattle.mk_reader.proofs.SpellingLemmas.{ends_at}
-use Rattle.mk_reader.proofs.CutLemmas.{one_of, not_false, not_true, cut_left, cut_right}
+use Rattle.mk_lines.specs.Text.{is_empty, begins_with, ends_with, without_last}
+use Rattle.mk_reader.specs.Spelled.{without_plus, SpellsName, is_name_byte, is_apart, IsConditional, IsSet}
+use Rattle.mk_lines.specs.References.{first_outside}
+use Rattle.mk_reader.specs.Form.{is_macro_name, conditional_at}
+use Rattle.mk_lines.specs.declared.reference.Place.TheVariants.{Outside}
+use Rattle.mk_lines.proofs.ReferenceLemmas.{either, or_false, Said, said, cut_found, and_true}
+use Rattle.mk_reader.proofs.BlankLemmas.{trimmed_is, trimmed_padded}
+use Rattle.mk_lines.proofs.SpellingLemmas.{ends_at}
+use Rattle.mk_lines.proofs.CutLemmas.{one_of, not_true, cut_left, cut_right}
+use Rattle.mk_reader.proofs.TestLemmas.{not_false}
 
 spelled : (left : List ℕ) (plus : Bool) → begins_with 43 (reverse left) ≡ plus → SpellsName left (trimmed (cond plus (without_last left) left)) plus
 spelled left true e = (without_last left, ends_at 43 left (reverse left) refl e, trimmed_padded (without_last left))

@@ -5,12 +5,14 @@ use Rattle.std.proofs.lemmas.List.{reverse-append, reverse-reverse}
 use Rattle.std.specs.List.{list_any, before_first}
 use Rattle.mk_profile.specs.Profile.{is_wide}
 use Rattle.mk_profile.specs.declared.profile.Profile.{Profile}
-use Rattle.mk_reader.specs.Text.{is_hash, is_empty, begins_with, ends_with}
-use Rattle.mk_reader.specs.Grammar.{Lacks, IsComment, Written, byte, backslash_and, hash, written_as, stands_for, AreWritten, IsLastOf, ContentIn, OpensRecipe, HasContent}
-use Rattle.mk_reader.specs.Form.{unescaped_from, content_in, opens_recipe, line_content}
-use Rattle.mk_reader.proofs.ReferenceLemmas.{either, or_false}
-use Rattle.mk_reader.proofs.BlankLemmas.{and_true, starts, before_first_is, before_first_cuts}
-use Rattle.mk_reader.proofs.OpensLemmas.{opens_said, opens_is}
+use Rattle.mk_lines.specs.Text.{is_hash, is_empty, begins_with, ends_with}
+use Rattle.mk_lines.specs.References.{Lacks}
+use Rattle.mk_reader.specs.Comments.{IsComment, Written, byte, backslash_and, hash, written_as, stands_for, AreWritten, IsLastOf, ContentIn, HasContent}
+use Rattle.mk_lines.specs.Semicolon.{OpensRecipe, opens_recipe}
+use Rattle.mk_reader.specs.Form.{unescaped_from, content_in, line_content}
+use Rattle.mk_lines.proofs.ReferenceLemmas.{either, or_false, and_true}
+use Rattle.mk_reader.proofs.BlankLemmas.{starts, before_first_is, before_first_cuts}
+use Rattle.mk_lines.proofs.OpensLemmas.{opens_said, opens_is}
 
 hash_start : (rest : List ℕ) → (is_empty rest || starts is_hash rest) ≡ true → IsComment rest
 hash_start [] h = h

@@ -4,19 +4,20 @@ use Rattle.std.specs.List.{list_any, list_all, prefix_len}
 use Rattle.byte_strings.specs.Blanks.{is_blank, trimmed_start, trimmed, first_word}
 use Rattle.mk_profile.specs.Profile.{is_wide}
 use Rattle.mk_profile.specs.declared.profile.Profile.{Profile}
-use Rattle.mk_reader.specs.Text.{is_dollar, is_empty, is_text}
+use Rattle.mk_lines.specs.Text.{is_dollar, is_empty, is_text}
 use Rattle.mk_reader.specs.Grammar.{refusal, is_bad_include, IsIncludeForm, IsLine, IsTextLine, IsRecipeLine, IsOfKind, IsForm}
 use Rattle.mk_reader.specs.Directive.{told_as}
-use Rattle.mk_reader.specs.Quoted.{signs_in}
-use Rattle.mk_reader.specs.Form.{include_kind, include_form, opened_form, decided_form, first_outside, line_form, line_content, content_form, statement_form, recipe_form, form_of}
+use Rattle.mk_lines.specs.Quoted.{signs_in}
+use Rattle.mk_reader.specs.Form.{include_kind, include_form, opened_form, decided_form, line_form, line_content, content_form, statement_form, recipe_form, form_of}
+use Rattle.mk_lines.specs.References.{first_outside}
 use Rattle.mk_reader.specs.declared.fault.Feature.TheVariants as feature
 use Rattle.mk_reader.specs.declared.fault.Cause.TheVariants as cause
-use Rattle.mk_reader.specs.declared.line.LogicalLine.{LogicalLine}
-use Rattle.mk_reader.specs.declared.form.Place.TheVariants.{Outside}
+use Rattle.mk_lines.specs.declared.line.LogicalLine.{LogicalLine}
+use Rattle.mk_lines.specs.declared.reference.Place.TheVariants.{Outside}
 use Rattle.mk_reader.specs.declared.form.Form.TheVariants as form
-use Rattle.mk_reader.proofs.ReferenceLemmas.{either, said}
+use Rattle.mk_lines.proofs.ReferenceLemmas.{either, said}
 use Rattle.mk_reader.proofs.BlankLemmas.{trimmed_is, trimmed_padded}
-use Rattle.mk_reader.proofs.CutLemmas.{Told, by_test, empty_is}
+use Rattle.mk_reader.proofs.TestLemmas.{Told, by_test, empty_is}
 use Rattle.mk_reader.proofs.ContentLemmas.{content_said, content_is}
 use Rattle.mk_reader.proofs.WordLemmas.{opens_kind, kind_opens, include_some}
 use Rattle.mk_reader.proofs.SaidLemmas.{decided_said}

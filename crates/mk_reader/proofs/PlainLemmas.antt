@@ -6,18 +6,21 @@ use Rattle.std.specs.List.{list_any, list_all}
 use Rattle.byte_strings.specs.Blanks.{is_blank, trimmed, first_word}
 use Rattle.mk_profile.specs.declared.profile.Profile.{Profile}
 use Rattle.mk_profile.specs.Profile.{is_wide}
-use Rattle.mk_reader.specs.Text.{is_backslash, is_empty, begins_with, is_plain, is_text}
-use Rattle.mk_reader.specs.Quoted.{signs_in}
+use Rattle.mk_lines.specs.Text.{is_backslash, is_empty, begins_with, is_plain, is_text}
+use Rattle.mk_lines.specs.Quoted.{signs_in}
 use Rattle.mk_reader.specs.Form.{include_kind}
 use Rattle.mk_reader.specs.Plain.{is_sign, is_quiet, may_include, IsPlainLine, plain_rule, IsPlainRule}
-use Rattle.mk_reader.specs.Grammar.{plain, nothing, Lacks, Whole, Without, Padded, BeginsInclude, IsInclude, IsNoInclude, IsRuleEnd, IsShell, SpellsRule, IsStatement, HasContent}
+use Rattle.mk_lines.specs.References.{plain, nothing, Lacks, Whole, Without}
+use Rattle.mk_reader.specs.Spelled.{Padded, BeginsInclude, IsInclude, IsNoInclude, IsRuleEnd, IsShell, SpellsRule}
+use Rattle.mk_reader.specs.Grammar.{IsStatement}
+use Rattle.mk_reader.specs.Comments.{HasContent}
 use Rattle.mk_reader.specs.declared.form.Form.TheVariants as form
-use Rattle.mk_reader.proofs.QuotedLemmas.{none_quoted}
-use Rattle.mk_reader.proofs.ReferenceLemmas.{either, or_false}
-use Rattle.mk_reader.proofs.BlankLemmas.{and_true, trimmed_padded}
+use Rattle.mk_lines.proofs.QuotedLemmas.{none_quoted}
+use Rattle.mk_lines.proofs.ReferenceLemmas.{either, or_false, and_true}
+use Rattle.mk_reader.proofs.BlankLemmas.{trimmed_padded}
 use Rattle.mk_reader.proofs.WordLemmas.{begins_with_first_word, has_special, opens_kind, kind_opens}
 use Rattle.mk_reader.proofs.SpecialLemmas.{without_dot}
-use Rattle.mk_reader.proofs.TextLemmas.{all_plain}
+use Rattle.mk_lines.proofs.TextLemmas.{all_plain}
 use Rattle.mk_reader.proofs.ContentLemmas.{content_said, alone}
 use Rattle.mk_reader.proofs.GrammarLemmas.{text_back}
 

@@ -4,20 +4,22 @@ use Rattle.std.specs.List.{prefix_len, onto_first}
 use Rattle.std.proofs.lemmas.Str.{is_utf8-from_IsUtf8, IsUtf8-nil}
 use Rattle.mk_profile.specs.Profile.{is_wide}
 use Rattle.mk_profile.specs.declared.profile.Profile.{Profile}
-use Rattle.mk_reader.specs.Text.{is_backslash, begins_with, without_last, is_text}
-use Rattle.mk_reader.specs.Lines.{Physical, spelling, goes_on, body, opening, groups, logical_line, numbered, logical_lines}
-use Rattle.mk_reader.specs.Grammar.{begins_blank, HasContent, IsForm}
-use Rattle.mk_reader.specs.Spelling.{ArePhysical}
+use Rattle.mk_lines.specs.Text.{is_backslash, begins_with, without_last, is_text}
+use Rattle.mk_lines.specs.Lines.{Physical, spelling, goes_on, body, opening, groups, logical_line, numbered, logical_lines}
+use Rattle.mk_reader.specs.Spelled.{begins_blank}
+use Rattle.mk_reader.specs.Comments.{HasContent}
+use Rattle.mk_reader.specs.Grammar.{IsForm}
+use Rattle.mk_lines.specs.Spelling.{ArePhysical}
 use Rattle.mk_reader.specs.Printed.{line_of_text, definition_text, rule_sign, rule_text, definition_on, rule_on, sign, spaced, PlainItem, definition, rule, lines_of, printed, IsOwnLine, IsPlainRecipe, ArePlain, next, recipe_on, after_recipe, items_on}
 use Rattle.mk_reader.specs.Statements.{RecipeBelow, LineStatements, AreStatements}
 use Rattle.mk_reader.specs.declared.item.Statement.{Statement}
 use Rattle.mk_reader.specs.declared.item.Statement.TheVariants as statement
-use Rattle.mk_reader.specs.declared.line.Ending.TheVariants.{EndOfText, Newline}
-use Rattle.mk_reader.specs.declared.line.LogicalLine.{LogicalLine}
+use Rattle.mk_lines.specs.declared.line.Ending.TheVariants.{EndOfText, Newline}
+use Rattle.mk_lines.specs.declared.line.LogicalLine.{LogicalLine}
 use Rattle.mk_reader.specs.declared.form.Form.TheVariants as form
-use Rattle.mk_reader.proofs.ReferenceLemmas.{or_false}
-use Rattle.mk_reader.proofs.LinesLemmas.{logical_line-is}
-use Rattle.mk_reader.proofs.SplitLemmas.{ended_before, last_ends, lines_are_back}
+use Rattle.mk_lines.proofs.ReferenceLemmas.{or_false}
+use Rattle.mk_lines.proofs.LinesLemmas.{logical_line-is}
+use Rattle.mk_lines.proofs.SplitLemmas.{ended_before, last_ends, lines_are_back}
 use Rattle.mk_reader.proofs.PrintedLemmas.{begins_more, no_blank_first, definition_read, rule_read}
 use Rattle.mk_reader.proofs.StatementLemmas.{recipe_some, told_plainly}
 use Rattle.mk_reader.proofs.ContentLemmas.{alone, content_said}

@@ -6,18 +6,22 @@ use Rattle.std.proofs.lemmas.List.Folds.{list_any-append}
 use Rattle.byte_strings.specs.Blanks.{is_blank, first_word}
 use Rattle.mk_profile.specs.Profile.{is_wide}
 use Rattle.mk_profile.specs.declared.profile.Profile.{Profile}
-use Rattle.mk_reader.specs.Text.{is_backslash, is_empty, begins_with, ends_with, is_text}
-use Rattle.mk_reader.specs.Quoted.{signs_in}
-use Rattle.mk_reader.specs.Grammar.{Piece, plain, piece_text, IsPiece, ArePieces, nothing, Lacks, Whole, Without, begins_blank, Padded, BeginsWithWord, BeginsInclude, IsNoInclude, SpellsName, SpellsAssignment, SpellsDefinition, IsCut, IsRuleEnd, ends_sign, SpellsRuleSign, SpellsEnd, SpellsRule, HasSpecial, is_refused_with, IsStatement, OpensRecipe, HasContent, IsTextLine, IsForm}
+use Rattle.mk_lines.specs.Text.{is_backslash, is_empty, begins_with, ends_with, is_text}
+use Rattle.mk_lines.specs.Quoted.{signs_in}
+use Rattle.mk_lines.specs.References.{Piece, plain, piece_text, IsPiece, ArePieces, nothing, Lacks, Whole, Without}
+use Rattle.mk_reader.specs.Spelled.{begins_blank, Padded, BeginsWithWord, BeginsInclude, IsNoInclude, SpellsName, SpellsAssignment, SpellsDefinition, IsCut, IsRuleEnd, SpellsRuleSign, SpellsEnd, SpellsRule, HasSpecial, is_refused_with}
+use Rattle.mk_lines.specs.Semicolon.{ends_sign, OpensRecipe}
+use Rattle.mk_reader.specs.Grammar.{IsStatement, IsTextLine, IsForm}
+use Rattle.mk_reader.specs.Comments.{HasContent}
 use Rattle.mk_reader.specs.Form.{line_content}
 use Rattle.mk_reader.specs.Printed.{line_of_text, HasBareEnds, IsPlainName, IsPlainValue, ArePlainTargets, ArePlainPrerequisites, sign, spaced, definition_text, rule_text, HasSign, definition_on, rule_on}
 use Rattle.mk_reader.specs.declared.special.SpecialName.{SpecialName}
 use Rattle.mk_reader.specs.declared.fault.Refusal.{Refusal}
 use Rattle.mk_reader.specs.declared.form.Form.{Form}
 use Rattle.mk_reader.specs.declared.form.Form.TheVariants as form
-use Rattle.mk_reader.proofs.ReferenceLemmas.{or_false}
+use Rattle.mk_lines.proofs.ReferenceLemmas.{or_false}
 use Rattle.mk_reader.proofs.WordLemmas.{word_is, begins_with_first_word, include_bare}
-use Rattle.mk_reader.proofs.QuotedLemmas.{seen_apart, seen_first, seen_length}
+use Rattle.mk_lines.proofs.QuotedLemmas.{seen_apart, seen_first, seen_length}
 use Rattle.mk_reader.proofs.ContentLemmas.{content_said, content_is, never_opens, alone, commented}
 
 abbrev Told : Type 0

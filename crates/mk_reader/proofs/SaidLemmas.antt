@@ -8,23 +8,26 @@ use Rattle.std.proofs.lemmas.List.Folds.{list_all-append}
 use Rattle.byte_strings.specs.Blanks.{is_blank, trimmed_start, trimmed, first_word}
 use Rattle.mk_profile.specs.Profile.{is_wide}
 use Rattle.mk_profile.specs.declared.profile.Profile.{Profile}
-use Rattle.mk_reader.specs.Text.{is_empty, begins_with, ends_with, without_last}
+use Rattle.mk_lines.specs.Text.{is_empty, begins_with, ends_with, without_last}
 use Rattle.mk_reader.specs.Special.{special_name}
-use Rattle.mk_reader.specs.Grammar.{IsCut, HasNone, Padded, AllBlank, SpellsName, SpellsAssignment, SpellsSign, SpellsColon, IsShell, SpellsRuleSign, SpellsEnd, SpellsRule, HasSpecial, is_refused_with, refusal, first_line, IsStatement}
-use Rattle.mk_reader.specs.Quoted.{signs_in}
-use Rattle.mk_reader.specs.Form.{first_outside, defined_as, is_no_name, named_form, kind_form, optional_form, assigned_form, definition_form, prerequisites_of, recipe_of, judged_form, rule_form, begins_shell_definition, double_form, set_form, colon_form, unsigned_form, decided_form}
+use Rattle.mk_reader.specs.Spelled.{IsCut, HasNone, Padded, AllBlank, SpellsName, SpellsAssignment, SpellsSign, SpellsColon, IsShell, SpellsRuleSign, SpellsEnd, SpellsRule, HasSpecial, is_refused_with}
+use Rattle.mk_reader.specs.Grammar.{refusal, first_line, IsStatement}
+use Rattle.mk_lines.specs.Quoted.{signs_in}
+use Rattle.mk_lines.specs.References.{first_outside}
+use Rattle.mk_reader.specs.Form.{defined_as, is_no_name, named_form, kind_form, optional_form, assigned_form, definition_form, prerequisites_of, recipe_of, judged_form, rule_form, begins_shell_definition, double_form, set_form, colon_form, unsigned_form, decided_form}
 use Rattle.mk_reader.specs.declared.special.SpecialName.{SpecialName}
 use Rattle.mk_reader.specs.declared.item.DefinitionKind.{DefinitionKind}
 use Rattle.mk_reader.specs.declared.item.DefinitionKind.TheVariants.{IfUndefined, AtOnce, AtOnceAlone, Output}
 use Rattle.mk_reader.specs.declared.item.Rule.{Rule}
 use Rattle.mk_reader.specs.declared.fault.Feature.TheVariants as feature
 use Rattle.mk_reader.specs.declared.fault.Cause.TheVariants as cause
-use Rattle.mk_reader.specs.declared.form.Place.TheVariants.{Outside}
-use Rattle.mk_reader.proofs.ReferenceLemmas.{either, or_false, Said, said}
-use Rattle.mk_reader.proofs.BlankLemmas.{and_true, begins_is, start_cut, trimmed_start_of, trimmed_padded}
-use Rattle.mk_reader.proofs.QuotedLemmas.{cut_seen}
-use Rattle.mk_reader.proofs.SpellingLemmas.{ends_at}
-use Rattle.mk_reader.proofs.CutLemmas.{Told, by_test, empty_is, one_of, cut_first, not_false, not_true, cut_left, cut_right, cut_byte}
+use Rattle.mk_lines.specs.declared.reference.Place.TheVariants.{Outside}
+use Rattle.mk_lines.proofs.ReferenceLemmas.{either, or_false, Said, said, and_true}
+use Rattle.mk_reader.proofs.BlankLemmas.{begins_is, start_cut, trimmed_start_of, trimmed_padded}
+use Rattle.mk_lines.proofs.QuotedLemmas.{cut_seen}
+use Rattle.mk_lines.proofs.SpellingLemmas.{ends_at}
+use Rattle.mk_reader.proofs.TestLemmas.{Told, by_test, empty_is, cut_first, not_false}
+use Rattle.mk_lines.proofs.CutLemmas.{one_of, not_true, cut_left, cut_right, cut_byte}
 use Rattle.mk_reader.proofs.WordLemmas.{has_special}
 use Rattle.mk_reader.proofs.ConditionalLemmas.{is_unset, set_parts, set_taken}
 

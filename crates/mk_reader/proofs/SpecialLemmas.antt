@@ -3,7 +3,7 @@ use Rattle.std.proofs.Common.{◌≡◌, ℕ, Bool, true, false, ◌==◌, List,
 use Rattle.std.proofs.lemmas.Bool.{eqb-true}
 use Rattle.mk_profile.specs.declared.profile.Profile.{Profile}
 use Rattle.mk_reader.specs.Special.{special_name}
-use Rattle.mk_reader.specs.Text.{begins_with}
+use Rattle.mk_lines.specs.Text.{begins_with}
 
 -- a word that begins with no dot is none
 pub without_dot : (profile : Profile) (word : List ℕ) → begins_with 46 word ≡ false → special_name profile word ≡ None

@@ -5,11 +5,13 @@ use Rattle.std.proofs.lemmas.List.{reverse-append, take_at}
 use Rattle.byte_strings.specs.Blanks.{is_blank, trimmed, first_word}
 use Rattle.mk_profile.specs.Profile.{is_wide}
 use Rattle.mk_profile.specs.declared.profile.Profile.{Profile}
-use Rattle.mk_reader.specs.Text.{begins_with, ends_with, without_last}
+use Rattle.mk_lines.specs.Text.{begins_with, ends_with, without_last}
 use Rattle.mk_reader.specs.Special.{special_name}
-use Rattle.mk_reader.specs.Grammar.{IsCut, SpellsName, SpellsAssignment, SpellsDefinition, SpellsSign, SpellsKind, IsUnsigned, SpellsColon, IsRuleEnd, SpellsRuleSign, SpellsEnd, SpellsRule, HasSpecial, is_refused_with, IsRefused, refusal, first_line, IsStatement}
-use Rattle.mk_reader.specs.Quoted.{signs_in}
-use Rattle.mk_reader.specs.Form.{first_outside, defined_as, is_no_name, named_form, kind_form, optional_form, assigned_form, definition_form, prerequisites_of, recipe_of, judged_form, rule_form, begins_shell_definition, double_form, set_form, colon_form, unsigned_form, decided_form}
+use Rattle.mk_reader.specs.Spelled.{IsCut, SpellsName, SpellsAssignment, SpellsDefinition, SpellsSign, SpellsKind, IsUnsigned, SpellsColon, IsRuleEnd, SpellsRuleSign, SpellsEnd, SpellsRule, HasSpecial, is_refused_with}
+use Rattle.mk_reader.specs.Grammar.{IsRefused, refusal, first_line, IsStatement}
+use Rattle.mk_lines.specs.Quoted.{signs_in}
+use Rattle.mk_lines.specs.References.{first_outside}
+use Rattle.mk_reader.specs.Form.{defined_as, is_no_name, named_form, kind_form, optional_form, assigned_form, definition_form, prerequisites_of, recipe_of, judged_form, rule_form, begins_shell_definition, double_form, set_form, colon_form, unsigned_form, decided_form}
 use Rattle.mk_reader.specs.declared.special.SpecialName.{SpecialName}
 use Rattle.mk_reader.specs.declared.item.Definition.{Definition}
 use Rattle.mk_reader.specs.declared.item.DefinitionKind.{DefinitionKind}
@@ -21,12 +23,13 @@ use Rattle.mk_reader.specs.declared.fault.Feature.TheVariants as feature
 use Rattle.mk_reader.specs.declared.fault.Cause.{Cause}
 use Rattle.mk_reader.specs.declared.fault.Cause.TheVariants as cause
 use Rattle.mk_reader.specs.declared.fault.Refusal.{Refusal}
-use Rattle.mk_reader.specs.declared.form.Place.TheVariants.{Outside}
+use Rattle.mk_lines.specs.declared.reference.Place.TheVariants.{Outside}
 use Rattle.mk_reader.specs.declared.form.UnfinishedRule.{UnfinishedRule}
 use Rattle.mk_reader.specs.declared.form.Form.TheVariants as form
-use Rattle.mk_reader.proofs.ReferenceLemmas.{either, or_false, cut_found, none_found}
+use Rattle.mk_lines.proofs.ReferenceLemmas.{either, or_false, cut_found, none_found}
 use Rattle.mk_reader.proofs.BlankLemmas.{trimmed_is}
-use Rattle.mk_reader.proofs.CutLemmas.{Told, cut_left, cut_right, cut_byte}
+use Rattle.mk_reader.proofs.TestLemmas.{Told}
+use Rattle.mk_lines.proofs.CutLemmas.{cut_left, cut_right, cut_byte}
 use Rattle.mk_reader.proofs.WordLemmas.{special_is}
 use Rattle.mk_reader.proofs.ConditionalLemmas.{is_unset, set_parts, set_taken}
 use Rattle.mk_reader.proofs.SaidLemmas.{shell_said, shell_back}

@@ -3,7 +3,7 @@ use Rattle.std.proofs.Common.{◌≡◌, ℕ, ◌+◌, ◌-◌, Bool, true, fals
 use Rattle.std.proofs.lemmas.List.{length_push}
 use Rattle.std.proofs.Math.Seq.{get_or-append_seam, set-append_seam}
 use Rattle.mk_profile.specs.declared.profile.Profile.{Profile}
-use Rattle.mk_reader.specs.Lines.{logical_lines}
+use Rattle.mk_lines.specs.Lines.{logical_lines}
 use Rattle.mk_profile.specs.Profile.{is_wide}
 use Rattle.mk_reader.specs.Form.{statement_form, form_of}
 use Rattle.mk_reader.specs.Grammar.{refusal, IsForm}
@@ -19,7 +19,7 @@ use Rattle.mk_reader.specs.declared.item.Item.TheVariants as item
 use Rattle.mk_reader.specs.declared.item.Statement.{Statement}
 use Rattle.mk_reader.specs.declared.item.Statement.TheVariants as statement
 use Rattle.mk_reader.specs.declared.fault.Refusal.{Refusal}
-use Rattle.mk_reader.specs.declared.line.LogicalLine.{LogicalLine}
+use Rattle.mk_lines.specs.declared.line.LogicalLine.{LogicalLine}
 use Rattle.mk_reader.specs.declared.form.UnfinishedRule.{UnfinishedRule}
 use Rattle.mk_reader.specs.declared.form.Form.{Form}
 use Rattle.mk_reader.specs.declared.form.Form.TheVariants as form

@@ -7,14 +7,14 @@ use Rattle.byte_strings.specs.Blanks.{is_blank, first_word}
 use Rattle.mk_profile.specs.Profile.{is_wide}
 use Rattle.mk_profile.specs.declared.profile.Profile.{Profile}
 use Rattle.mk_profile.specs.declared.profile.Profile.TheVariants as profiles
-use Rattle.mk_reader.specs.Text.{is_empty}
+use Rattle.mk_lines.specs.Text.{is_empty}
 use Rattle.mk_reader.specs.Special.{all_names, is_known, special_name, name_text}
-use Rattle.mk_reader.specs.Grammar.{begins_blank, BeginsWithWord, BeginsInclude, IsInclude, HasSpecial}
+use Rattle.mk_reader.specs.Spelled.{begins_blank, BeginsWithWord, BeginsInclude, IsInclude, HasSpecial}
 use Rattle.mk_reader.specs.Form.{include_kind}
 use Rattle.mk_reader.specs.declared.special.SpecialName.{SpecialName}
 use Rattle.mk_reader.specs.declared.special.SpecialName.TheVariants as special
-use Rattle.mk_reader.proofs.ReferenceLemmas.{either}
-use Rattle.mk_reader.proofs.BlankLemmas.{starts, and_true, before_first_is, before_first_cuts}
+use Rattle.mk_lines.proofs.ReferenceLemmas.{either, and_true}
+use Rattle.mk_reader.proofs.BlankLemmas.{starts, before_first_is, before_first_cuts}
 
 -- Special names
 
@@ -23,6 +23,8 @@ unfolding special_name
 names_found profiles.Strict special.NotParallel e = absurd (cc e)
 names_found profiles.Strict special.DeleteOnError e = absurd (cc e)
 names_found profiles.Strict special.Depfile e = absurd (cc e)
+names_found profiles.Strict special.Console e = absurd (cc e)
+names_found profiles.Strict special.Pool e = absurd (cc e)
 names_found profiles.Strict special.OneShell e = absurd (cc e)
 names_found profiles.Strict special.SecondExpansion e = absurd (cc e)
 names_found profiles.Strict special.ExportAllVariables e = absurd (cc e)

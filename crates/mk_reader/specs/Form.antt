@@ -1,13 +1,13 @@
 -- What one logical line is: nothing, a recipe line, an include line, a definition, a rule, or refused.
-use Rattle.std.specs.Prelude.{◌≡◌, ℕ, ◌+◌, Bool, true, false, not, ◌&&◌, ◌||◌, ◌==◌, List, [], ◌∷◌, take, drop, length, Option, Some, None, option_map, Result, Ok, Err, slice_index, codes, bytes_eq, if◌then◌else◌}
+use Rattle.std.specs.Prelude.{◌≡◌, ℕ, ◌+◌, Bool, true, false, not, ◌&&◌, ◌||◌, ◌==◌, List, [], ◌∷◌, take, drop, length, Option, Some, None, Result, Ok, Err, slice_index, codes, bytes_eq, if◌then◌else◌}
 use Rattle.std.specs.List.{before_first, list_any, list_all}
 use Rattle.byte_strings.specs.Blanks.{is_blank, trimmed_start, trimmed, first_word}
 use Rattle.mk_profile.specs.Profile.{is_wide}
 use Rattle.mk_profile.specs.declared.profile.Profile.{Profile}
 use Rattle.mk_reader.specs.Directive.{told_as}
-use Rattle.mk_reader.specs.Grammar.{is_name_byte, is_apart, ends_definition}
-use Rattle.mk_reader.specs.Quoted.{without_quoted, signs_in}
-use Rattle.mk_reader.specs.Text.{is_hash, is_dollar, is_empty, begins_with, ends_with, without_last, without_plus, is_text}
+use Rattle.mk_reader.specs.Spelled.{is_name_byte, is_apart, without_plus}
+use Rattle.mk_lines.specs.Quoted.{signs_in}
+use Rattle.mk_lines.specs.Text.{is_hash, is_dollar, is_empty, begins_with, ends_with, without_last, is_text}
 use Rattle.mk_reader.specs.Special.{special_name, is_refused, takes_no_prerequisites}
 use Rattle.mk_reader.specs.declared.special.SpecialName.{SpecialName}
 use Rattle.mk_reader.specs.declared.item.Definition.{Definition}
@@ -15,17 +15,18 @@ use Rattle.mk_reader.specs.declared.item.DefinitionKind.{DefinitionKind}
 use Rattle.mk_reader.specs.declared.item.DefinitionKind.TheVariants.{IfUndefined, AtOnce, AtOnceAlone, Output, NoSign}
 use Rattle.mk_reader.specs.declared.item.RecipeLine.{RecipeLine}
 use Rattle.mk_reader.specs.declared.item.Rule.{Rule}
-use Rattle.mk_reader.specs.declared.fault.Feature.TheVariants as feature
 use Rattle.mk_reader.specs.declared.fault.Cause.{Cause}
 use Rattle.mk_reader.specs.declared.fault.Cause.TheVariants.{NotText, MissingSeparator, Unsupported}
 use Rattle.mk_reader.specs.declared.fault.Refusal.{Refusal}
 use Rattle.mk_reader.specs.declared.fault.ReadFault.{ReadFault}
 use Rattle.mk_reader.specs.declared.fault.ReadFault.TheVariants.{OutOfMemory, Refused}
-use Rattle.mk_reader.specs.declared.line.LogicalLine.{LogicalLine}
-use Rattle.mk_reader.specs.declared.form.Place.{Place}
-use Rattle.mk_reader.specs.declared.form.Place.TheVariants.{Outside, Dollar, Within}
+use Rattle.mk_lines.specs.declared.line.LogicalLine.{LogicalLine}
+use Rattle.mk_lines.specs.declared.reference.Place.TheVariants.{Outside}
 use Rattle.mk_reader.specs.declared.form.Form.{Form}
+use Rattle.mk_reader.specs.declared.fault.Feature.TheVariants as feature
 use Rattle.mk_reader.specs.declared.form.Form.TheVariants as form
+use Rattle.mk_lines.specs.References.{first_outside}
+use Rattle.mk_lines.specs.Semicolon.{opens_recipe}
 
 -- this line of the file is refused for this cause
 abbrev pub refusal : List ℕ → ℕ → Cause → Refusal
@@ -41,24 +42,6 @@ abbrev pub Gives : {A : Type 0} → Result A ReadFault → Result A Refusal → 
 Gives (Ok x) given = given ≡ Ok x
 Gives (Err OutOfMemory) given = Unit {0}
 Gives (Err (Refused q)) given = given ≡ Err q
-
--- where the byte after this one stands: `$` begins a reference, which is one character, or reaches from a bracket
--- to the first bracket that closes it
-unfoldable pub next_place : Place → ℕ → Place
-next_place Outside b = if b == 36 then Dollar else Outside
-next_place Dollar b = if b == 40 then Within 41 else (if b == 123 then Within 125 else Outside)
-next_place (Within close) b = if b == close then Outside else Within close
-
-abbrev pub is_outside : Place → Bool
-is_outside Outside = true
-is_outside Dollar = false
-is_outside (Within _) = false
-
--- the first place of one of two bytes that stands outside references
-abbrev pub first_outside : ℕ → ℕ → Place → List ℕ → Option ℕ
-first_outside one other place [] = None
-first_outside one other place (b ∷ bs) =
-    if is_outside place && (b == one || b == other) then Some 0 else option_map (λ i. i + 1) (first_outside one other (next_place place b) bs)
 
 -- whether the files of an include line that begins with this word have to be there; other words begin none
 unfoldable pub include_kind : Profile → List ℕ → Option Bool
@@ -207,21 +190,6 @@ unescaped_from true (b ∷ bs) = if b == 35 then 35 ∷ unescaped_from false bs 
 abbrev pub content_in : (wide : Bool) → List ℕ → List ℕ
 content_in false text = before_first is_hash text
 content_in true text = unescaped_from false text
-
--- behind these bytes of a rule line, up to its first `;` outside references, no comment begins
-abbrev pub recipe_behind : List ℕ → Option ℕ → Bool
-recipe_behind right None = false
-recipe_behind right (Some at) = not (list_any is_hash (take at right))
-
--- with its first `=` or `:` outside references at this place, the line has a recipe behind `;`
-abbrev pub opens_at : List ℕ → Option ℕ → Bool
-opens_at text None = false
-opens_at text (Some at) =
-    slice_index text at == 58 && (not (ends_definition (drop (at + 1) text)) && (not (list_any is_hash (take at text))
-    && recipe_behind (drop (at + 1) text) (first_outside 59 59 Outside (drop (at + 1) text))))
-
-unfoldable pub opens_recipe : List ℕ → Bool
-opens_recipe text = opens_at (without_quoted text) (first_outside 61 58 Outside (without_quoted text))
 
 -- what a line holds: in the wide profile all of it, where a recipe stands behind its `;`
 unfoldable pub line_content : Profile → List ℕ → List ℕ

@@ -4,10 +4,11 @@ use Rattle.std.specs.List.{list_any, list_all}
 use Rattle.byte_strings.specs.Blanks.{is_blank}
 use Rattle.mk_profile.specs.Profile.{is_wide}
 use Rattle.mk_profile.specs.declared.profile.Profile.{Profile}
-use Rattle.mk_reader.specs.Text.{is_empty, begins_with, is_text}
-use Rattle.mk_reader.specs.Lines.{number_after}
-use Rattle.mk_reader.specs.Grammar.{Lacks, Whole, Without, begins_blank, BeginsWithWord, BeginsInclude, HasSpecial, is_refused_with}
-use Rattle.mk_reader.specs.Quoted.{signs_in}
+use Rattle.mk_lines.specs.Text.{is_empty, begins_with, is_text}
+use Rattle.mk_lines.specs.Lines.{number_after}
+use Rattle.mk_lines.specs.References.{Lacks, Whole, Without}
+use Rattle.mk_reader.specs.Spelled.{begins_blank, BeginsWithWord, BeginsInclude, HasSpecial, is_refused_with}
+use Rattle.mk_lines.specs.Quoted.{signs_in}
 use Rattle.mk_reader.specs.Statements.{item_of}
 use Rattle.mk_reader.specs.declared.special.SpecialName.{SpecialName}
 use Rattle.mk_reader.specs.declared.item.Definition.{Definition}
@@ -15,7 +16,7 @@ use Rattle.mk_reader.specs.declared.item.RecipeLine.{RecipeLine}
 use Rattle.mk_reader.specs.declared.item.Item.{Item}
 use Rattle.mk_reader.specs.declared.item.Item.TheVariants as item
 use Rattle.mk_reader.specs.declared.form.UnfinishedRule.{UnfinishedRule}
-use Rattle.mk_reader.specs.declared.line.LogicalLine.{LogicalLine}
+use Rattle.mk_lines.specs.declared.line.LogicalLine.{LogicalLine}
 
 -- a logical line that is no recipe line
 abbrev pub line_of_text : (number : ℕ) (text : List ℕ) → LogicalLine

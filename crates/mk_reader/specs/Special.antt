@@ -3,9 +3,9 @@ use Rattle.std.specs.Prelude.{ℕ, Bool, true, false, not, ◌&&◌, List, [], �
 use Rattle.mk_profile.specs.Profile.{is_wide}
 use Rattle.mk_profile.specs.declared.profile.Profile.{Profile}
 use Rattle.mk_reader.specs.declared.special.SpecialName.{SpecialName}
-use Rattle.mk_reader.specs.declared.special.SpecialName.TheVariants.{KeepState, Suffixes, NoParallel, Ignore, Silent, Precious, Posix, Parallel, SccsGet, Local, Init, Done, Failed, Default, KeepStateFile, MakeVersion, GetPosix, SccsGetPosix, Phony, NotParallel, DeleteOnError, Depfile, OneShell, SecondExpansion, ExportAllVariables}
+use Rattle.mk_reader.specs.declared.special.SpecialName.TheVariants.{KeepState, Suffixes, NoParallel, Ignore, Silent, Precious, Posix, Parallel, SccsGet, Local, Init, Done, Failed, Default, KeepStateFile, MakeVersion, GetPosix, SccsGetPosix, Phony, NotParallel, DeleteOnError, Depfile, Console, Pool, OneShell, SecondExpansion, ExportAllVariables}
 
--- how a special name is written (illumos make(1S); the two with PARALLEL: the dmake manual; `.DEPFILE`: own; the others of the last seven: GNU make)
+-- how a special name is written (illumos make(1S); the two with PARALLEL: the dmake manual; `.DEPFILE`, `.CONSOLE` and `.POOL`: own; the others of the last nine: GNU make)
 abbrev pub name_text : SpecialName → List ℕ
 name_text KeepState = codes ".KEEP_STATE"
 name_text Suffixes = codes ".SUFFIXES"
@@ -29,18 +29,22 @@ name_text Phony = codes ".PHONY"
 name_text NotParallel = codes ".NOTPARALLEL"
 name_text DeleteOnError = codes ".DELETE_ON_ERROR"
 name_text Depfile = codes ".DEPFILE"
+name_text Console = codes ".CONSOLE"
+name_text Pool = codes ".POOL"
 name_text OneShell = codes ".ONESHELL"
 name_text SecondExpansion = codes ".SECONDEXPANSION"
 name_text ExportAllVariables = codes ".EXPORT_ALL_VARIABLES"
 
 abbrev pub all_names : List SpecialName
-all_names = KeepState ∷ Suffixes ∷ NoParallel ∷ Ignore ∷ Silent ∷ Precious ∷ Posix ∷ Parallel ∷ SccsGet ∷ Local ∷ Init ∷ Done ∷ Failed ∷ Default ∷ KeepStateFile ∷ MakeVersion ∷ GetPosix ∷ SccsGetPosix ∷ Phony ∷ NotParallel ∷ DeleteOnError ∷ Depfile ∷ OneShell ∷ SecondExpansion ∷ ExportAllVariables ∷ []
+all_names = KeepState ∷ Suffixes ∷ NoParallel ∷ Ignore ∷ Silent ∷ Precious ∷ Posix ∷ Parallel ∷ SccsGet ∷ Local ∷ Init ∷ Done ∷ Failed ∷ Default ∷ KeepStateFile ∷ MakeVersion ∷ GetPosix ∷ SccsGetPosix ∷ Phony ∷ NotParallel ∷ DeleteOnError ∷ Depfile ∷ Console ∷ Pool ∷ OneShell ∷ SecondExpansion ∷ ExportAllVariables ∷ []
 
 -- the profile has the name; one that it lacks is an ordinary name in it
 abbrev pub is_known : Profile → SpecialName → Bool
 is_known profile NotParallel = is_wide profile
 is_known profile DeleteOnError = is_wide profile
 is_known profile Depfile = is_wide profile
+is_known profile Console = is_wide profile
+is_known profile Pool = is_wide profile
 is_known profile OneShell = is_wide profile
 is_known profile SecondExpansion = is_wide profile
 is_known profile ExportAllVariables = is_wide profile
@@ -77,6 +81,8 @@ is_refused profile Local = false
 is_refused profile NotParallel = false
 is_refused profile DeleteOnError = false
 is_refused profile Depfile = false
+is_refused profile Console = false
+is_refused profile Pool = false
 
 -- a rule of this name is refused where it has prerequisites, which would speak of single targets: in the strict profile
 unfoldable pub takes_no_prerequisites : Profile → SpecialName → Bool

@@ -2,7 +2,7 @@
 use Rattle.std.specs.Prelude.{◌≡◌, ℕ, Bool, true, false, not, ◌&&◌, if◌then◌else◌, List, [], ◌∷◌, ◌++◌, Option, Some, None, Result, Ok, Err, is_some}
 use Rattle.mk_profile.specs.declared.profile.Profile.{Profile}
 use Rattle.mk_profile.specs.Profile.{is_wide}
-use Rattle.mk_reader.specs.Lines.{logical_lines, joined_lines}
+use Rattle.mk_lines.specs.Lines.{logical_lines, joined_lines}
 use Rattle.mk_reader.specs.Grammar.{refusal, IsTextLine, IsForm}
 use Rattle.mk_reader.specs.Form.{statement_form, form_of}
 use Rattle.mk_reader.specs.declared.special.SpecialName.{SpecialName}
@@ -19,7 +19,7 @@ use Rattle.mk_reader.specs.declared.fault.Cause.TheVariants.{MissingSeparator, T
 use Rattle.mk_reader.specs.declared.fault.Refusal.{Refusal}
 use Rattle.mk_reader.specs.declared.fault.ReadFault.{ReadFault}
 use Rattle.mk_reader.specs.declared.fault.ReadFault.TheVariants.{OutOfMemory, Refused}
-use Rattle.mk_reader.specs.declared.line.LogicalLine.{LogicalLine}
+use Rattle.mk_lines.specs.declared.line.LogicalLine.{LogicalLine}
 use Rattle.mk_reader.specs.declared.form.UnfinishedRule.{UnfinishedRule}
 use Rattle.mk_reader.specs.declared.form.Form.{Form}
 use Rattle.mk_reader.specs.declared.form.Form.TheVariants as form

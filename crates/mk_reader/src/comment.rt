@@ -1,10 +1,10 @@
 //! What a line holds before its comment.
 ghost use Rattle.std.specs.Prelude.{◌≡◌, ℕ, List, ◌∷◌, ◌++◌, false, not, ◌&&◌, ◌==◌, IfOk};
 ghost use Rattle.std.specs.List.{before_first};
-ghost use Rattle.mk_reader.specs.Text.{is_hash};
+ghost use Rattle.mk_lines.specs.Text.{is_hash};
 ghost use Rattle.mk_reader.specs.Form.{unescaped_from};
 
-use crate::lines::len_before;
+use mk_lines::len_before;
 use std::alloc::{AllocError, Global};
 
 /// What stands before the first `#`.

@@ -2,19 +2,18 @@
 ghost use Rattle.std.specs.Prelude.{◌≡◌, ◌&&◌, reverse, IfOk};
 ghost use Rattle.std.specs.List.{list_any, list_all};
 ghost use Rattle.byte_strings.specs.Blanks.{is_blank};
-ghost use Rattle.mk_reader.specs.Form.{Gives, defined_as, is_no_name, named_form, kind_form, optional_form, assigned_form, definition_form, is_macro_name, conditional_at, set_form, first_outside};
-ghost use Rattle.mk_reader.specs.Text.{without_plus};
-ghost use Rattle.mk_reader.specs.Grammar.{is_name_byte, begins_blank, is_apart};
-ghost use Rattle.mk_reader.specs.declared.form.Place.TheVariants.{Outside};
+ghost use Rattle.mk_reader.specs.Form.{Gives, defined_as, is_no_name, named_form, kind_form, optional_form, assigned_form, definition_form, is_macro_name, conditional_at, set_form};
+ghost use Rattle.mk_lines.specs.References.{first_outside};
+ghost use Rattle.mk_reader.specs.Spelled.{without_plus, is_name_byte, begins_blank, is_apart};
+ghost use Rattle.mk_lines.specs.declared.reference.Place.TheVariants.{Outside};
 
 use crate::fault::{Cause, Feature, ReadFault};
 use crate::form::Form;
 use crate::item::{Definition, DefinitionKind, DefinitionLine};
-use crate::line::LinePlace;
-use crate::lines::{around, ends_with, without_last};
-use crate::reference::first_outside;
+use crate::line_place::LinePlace;
 use crate::refuse::refuse;
 use byte_strings::{ByteString, is_blank, trim};
+use mk_lines::{around, ends_with, first_outside, without_last};
 use std::alloc::AllocError;
 
 fn has_blank(bytes: &[u8]) -> bool
@@ -137,7 +136,7 @@ fn is_macro_name(name: &[u8]) -> bool
     !name.is_empty() && has_name_bytes_alone(name)
 }
 
-#[tactic(auto, unfolding(crate::specs::Text::without_plus))]
+#[tactic(auto, unfolding(crate::specs::Spelled::without_plus))]
 fn without_plus(left: &[u8]) -> &[u8]
     ensures { result.now ≡ without_plus left.now }
 {

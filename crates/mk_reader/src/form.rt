@@ -2,16 +2,6 @@
 use crate::item::{Definition, DefinitionLine, IncludeLine, RecipeLine, Rule};
 use crate::special::SpecialName;
 
-/// Whether a byte stands outside references.
-#[derive(Clone, Copy)]
-pub enum Place {
-    Outside,
-    /// Directly behind the `$` of a reference.
-    Dollar,
-    /// Before this closing bracket of a reference.
-    Within(u8),
-}
-
 /// A rule, and the special name that its first target is, to which recipe lines may still be added.
 #[derive(Drop)]
 pub struct UnfinishedRule {

@@ -7,13 +7,13 @@ use crate::fault::{Cause, ReadFault};
 use crate::file_name::FileName;
 use crate::form::{Form, UnfinishedRule};
 use crate::item::{Item, RecipeLine, Special, Statement};
-use crate::line::{LinePlace, LineText, LogicalLine};
+use crate::line_place::LinePlace;
 use crate::outside::outside_form;
 use crate::plain_line::plain_rule;
 use crate::refuse::refuse;
 use crate::statement::statement_form;
-use crate::text::is_text;
 use byte_strings::trim_start;
+use mk_lines::{LineText, LogicalLine, is_text};
 use mk_profile::Profile;
 use std::alloc::{AllocError, Global};
 

@@ -1,12 +1,13 @@
 //! Laws of the definitions that `statements_of` meets. The functions do nothing: what they ensure is the law.
-ghost use Rattle.std.specs.Prelude.{◌≡◌, ◌↔◌, ◌&&◌, ℕ, Bool, true, false, List, ◌∷◌, ◌++◌, Option, Some, Result, Ok, map, flat_map};
+ghost use Rattle.std.specs.Prelude.{◌≡◌, ◌↔◌, ◌&&◌, ℕ, Bool, true, false, List, ◌∷◌, ◌++◌, Option, Result, Ok, map};
 ghost use Rattle.mk_profile.specs.Profile.{is_wide};
 ghost use Rattle.mk_profile.specs.declared.profile.Profile.{Profile};
-ghost use Rattle.mk_reader.specs.Lines.{Physical, spelling, groups, lines_left, text_of};
-ghost use Rattle.mk_reader.specs.Spelling.{AreLines, AreGroups, IsTextOf};
 ghost use Rattle.mk_reader.specs.Form.{form_of};
-ghost use Rattle.mk_reader.specs.Text.{ends_with, is_text};
-ghost use Rattle.mk_reader.specs.Grammar.{Lacks, HasSpecial, is_refused_with, OpensRecipe, IsForm};
+ghost use Rattle.mk_lines.specs.Text.{ends_with, is_text};
+ghost use Rattle.mk_lines.specs.References.{Lacks};
+ghost use Rattle.mk_reader.specs.Spelled.{HasSpecial, is_refused_with};
+ghost use Rattle.mk_lines.specs.Semicolon.{OpensRecipe};
+ghost use Rattle.mk_reader.specs.Grammar.{IsForm};
 ghost use Rattle.mk_reader.specs.Printed.{line_of_text, IsPlainName, IsPlainValue, ArePlainTargets, ArePlainPrerequisites, definition_text, definition_on, HasSign, rule_text, rule_on, PlainItem, ArePlain, printed, items_on};
 ghost use Rattle.mk_reader.specs.Statements.{AreStatements};
 ghost use Rattle.mk_reader.specs.declared.fault.Refusal.{Refusal};
@@ -15,23 +16,7 @@ ghost use Rattle.mk_reader.specs.declared.form.Form.TheVariants as form;
 ghost use Rattle.mk_reader.specs.declared.special.SpecialName.{SpecialName};
 ghost use Rattle.mk_reader.specs.declared.item.Statement.{Statement};
 ghost use Rattle.mk_reader.specs.declared.item.Statement.TheVariants as statement;
-ghost use Rattle.mk_reader.specs.declared.line.LogicalLine.{LogicalLine};
-
-/// Each byte of a text belongs to one physical line, and each physical line to one logical line. No other lines, and no
-/// other groups of them, are the text's.
-pub fn text_is_its_lines()
-    ensures spelled { (text : List ℕ)
-        → flat_map spelling (flat_map (λ group. group) (groups (lines_left (Some text)))) ≡ text }
-    ensures lines { (text : List ℕ) (lines : List Physical) → (lines_left (Some text) ≡ lines) ↔ AreLines text lines }
-    ensures groups { (text : List ℕ) (parts : List (List Physical))
-        → (groups (lines_left (Some text)) ≡ parts) ↔ AreGroups text parts }
-{}
-
-/// A recipe line is joined as a recipe, and any other as a rule line, but in the wide profile for what stands behind the `;` of a rule.
-pub fn lines_are_joined()
-    ensures { (recipe wide : Bool) (group : List Physical) (text : List ℕ)
-        → (text_of recipe wide group ≡ text) ↔ IsTextOf recipe wide group text }
-{}
+ghost use Rattle.mk_lines.specs.declared.line.LogicalLine.{LogicalLine};
 
 /// A text has just one list of statements in each profile.
 pub fn one_reading()

@@ -11,19 +11,13 @@ mod form;
 mod gathered;
 mod item;
 pub mod laws;
-mod line;
-mod lines;
+mod line_place;
 mod outside;
 mod plain_line;
-mod quoted;
-mod recipe_search;
-mod reference;
 mod refuse;
-mod semicolon;
 mod special;
 mod statement;
 mod statements;
-mod text;
 
 pub use directive::Directive;
 pub use fault::{Cause, Feature, MacroCause, ReadFault, Refusal, StaticCause};
@@ -32,9 +26,5 @@ pub use item::{
     Definition, DefinitionKind, DefinitionLine, IncludeLine, Item, Recipe, RecipeLine, Rule,
     Special, Statement,
 };
-pub use lines::{ends_with, next_joined_line};
-pub use quoted::split_at_colon;
-pub use reference::split_outside;
 pub use special::{SpecialName, is_refused, special_name};
 pub use statements::statements_of;
-pub use text::{is_text, is_utf8};

@@ -7,10 +7,10 @@ ghost use Rattle.mk_reader.specs.Statements.{lacks_sign, may_be_rule, lacks_sepa
 use crate::fault::{Cause, ReadFault, Refusal};
 use crate::form::Form;
 use crate::item::DefinitionKind;
-use crate::line::LinePlace;
-use crate::lines::next_joined_line;
+use crate::line_place::LinePlace;
 use crate::refuse::refuse;
 use crate::statement::statement_form;
+use mk_lines::next_joined_line;
 
 fn lacks_sign(kind: DefinitionKind) -> bool
     ensures { result ≡ lacks_sign kind }

@@ -7,12 +7,11 @@ ghost use Rattle.mk_reader.specs.Plain.{is_sign, is_quiet, may_include, IsPlainL
 ghost use Rattle.mk_reader.specs.declared.form.Form.TheVariants as form;
 
 use crate::item::{Recipe, Rule};
-use crate::line::LinePlace;
-use crate::lines::{around, begins_with};
+use crate::line_place::LinePlace;
 use crate::statement::include_kind;
-use crate::text::is_plain;
 use byte_strings::{ByteString, first_word, trim};
 use memchr::memchr;
+use mk_lines::{around, begins_with, is_plain};
 use mk_profile::Profile;
 use std::alloc::AllocError;
 

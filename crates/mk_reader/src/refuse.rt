@@ -2,7 +2,7 @@
 ghost use Rattle.mk_reader.specs.Form.{Refuses, refusal};
 
 use crate::fault::{Cause, ReadFault, Refusal};
-use crate::line::LinePlace;
+use crate::line_place::LinePlace;
 use byte_strings::ByteString;
 
 /// The fault of a line; the file's name is copied.

@@ -2,7 +2,7 @@
 ghost use Rattle.std.specs.Prelude.{◌≡◌};
 ghost use Rattle.mk_reader.specs.Special.{name_text, is_known, special_name, is_refused, takes_no_prerequisites};
 
-use crate::lines::begins_with;
+use mk_lines::begins_with;
 use mk_profile::Profile;
 use std::fmt;
 
@@ -36,13 +36,15 @@ pub enum SpecialName {
     NotParallel,
     DeleteOnError,
     Depfile,
+    Console,
+    Pool,
     // So are these, and they are refused.
     OneShell,
     SecondExpansion,
     ExportAllVariables,
 }
 
-const ALL: [SpecialName; 25] = [
+const ALL: [SpecialName; 27] = [
     SpecialName::KeepState,
     SpecialName::Suffixes,
     SpecialName::NoParallel,
@@ -65,6 +67,8 @@ const ALL: [SpecialName; 25] = [
     SpecialName::NotParallel,
     SpecialName::DeleteOnError,
     SpecialName::Depfile,
+    SpecialName::Console,
+    SpecialName::Pool,
     SpecialName::OneShell,
     SpecialName::SecondExpansion,
     SpecialName::ExportAllVariables,
@@ -98,6 +102,8 @@ impl SpecialName {
             SpecialName::NotParallel => ".NOTPARALLEL",
             SpecialName::DeleteOnError => ".DELETE_ON_ERROR",
             SpecialName::Depfile => ".DEPFILE",
+            SpecialName::Console => ".CONSOLE",
+            SpecialName::Pool => ".POOL",
             SpecialName::OneShell => ".ONESHELL",
             SpecialName::SecondExpansion => ".SECONDEXPANSION",
             SpecialName::ExportAllVariables => ".EXPORT_ALL_VARIABLES",
@@ -123,6 +129,8 @@ fn is_known(profile: Profile, name: SpecialName) -> bool
         SpecialName::NotParallel
         | SpecialName::DeleteOnError
         | SpecialName::Depfile
+        | SpecialName::Console
+        | SpecialName::Pool
         | SpecialName::OneShell
         | SpecialName::SecondExpansion
         | SpecialName::ExportAllVariables => profile.is_wide(),

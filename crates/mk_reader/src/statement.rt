@@ -2,11 +2,12 @@
 ghost use Rattle.std.specs.Prelude.{◌≡◌, ◌+◌, ◌<◌, ◌==◌, ◌&&◌, IfOk, IfSome, length, take, drop, codes, bytes_eq};
 ghost use Rattle.std.specs.List.{list_any};
 ghost use Rattle.byte_strings.specs.Blanks.{trimmed_start};
-ghost use Rattle.mk_reader.specs.Quoted.{signs_in};
-ghost use Rattle.mk_reader.specs.Text.{is_dollar, is_empty, is_text};
+ghost use Rattle.mk_lines.specs.Quoted.{signs_in};
+ghost use Rattle.mk_lines.specs.Text.{is_dollar, is_empty, is_text};
 ghost use Rattle.mk_reader.specs.Directive.{told_as};
-ghost use Rattle.mk_reader.specs.Form.{Gives, include_kind, include_form, prerequisites_of, recipe_of, judged_form, rule_form, begins_shell_definition, double_form, colon_form, unsigned_form, decided_form, line_form, content_form, statement_form, first_outside};
-ghost use Rattle.mk_reader.specs.declared.form.Place.TheVariants.{Outside};
+ghost use Rattle.mk_reader.specs.Form.{Gives, include_kind, include_form, prerequisites_of, recipe_of, judged_form, rule_form, begins_shell_definition, double_form, colon_form, unsigned_form, decided_form, line_form, content_form, statement_form};
+ghost use Rattle.mk_lines.specs.References.{first_outside};
+ghost use Rattle.mk_lines.specs.declared.reference.Place.TheVariants.{Outside};
 
 use crate::comment::{before_comment, unescaped};
 use crate::definition_line::{definition_form, kind_form, set_form};
@@ -16,15 +17,13 @@ use crate::form::{Form, UnfinishedRule};
 use crate::item::{
     Definition, DefinitionKind, DefinitionLine, IncludeLine, Recipe, RecipeLine, Rule,
 };
-use crate::line::LinePlace;
-use crate::lines::{around, begins_with, ends_with, without_first};
-use crate::quoted::first_sign;
-use crate::reference::first_outside;
+use crate::line_place::LinePlace;
 use crate::refuse::refuse;
-use crate::semicolon::opens_recipe;
 use crate::special::{SpecialName, is_refused, special_name, takes_no_prerequisites};
-use crate::text::is_text;
 use byte_strings::{ByteString, first_word, trim, trim_start};
+use mk_lines::{
+    around, begins_with, ends_with, first_outside, first_sign, is_text, opens_recipe, without_first,
+};
 use mk_profile::Profile;
 use std::alloc::{AllocError, Global};
 

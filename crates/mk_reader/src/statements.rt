@@ -5,7 +5,7 @@ ghost use Rattle.std.specs.Prelude.{IfOk};
 use crate::file_name::FileName;
 use crate::gathered::Gathered;
 use crate::item::Statement;
-use crate::lines::next_logical_line;
+use mk_lines::next_logical_line;
 use mk_profile::Profile;
 use std::alloc::{AllocError, Global};
 

@@ -3,8 +3,8 @@ use Rattle.std.proofs.Common.{◌≡◌, ◌∙◌, ℕ, ◌<◌, ◌≤◌, Boo
 use Rattle.std.specs.Prelude.{Any}
 use Rattle.std.proofs.lemmas.List.Folds.{Any-from_list_any, list_any-from_Any}
 use Rattle.mk_profile.specs.declared.profile.Profile.{Profile}
-use Rattle.mk_reader.specs.Text.{is_text}
-use Rattle.mk_reader.specs.Lines.{joined_lines, lines_left}
+use Rattle.mk_lines.specs.Text.{is_text}
+use Rattle.mk_lines.specs.Lines.{joined_lines, lines_left}
 use Rattle.st_records.specs.declared.limits.TheConstants.{MAX_NAME_BYTES, MAX_HIDDEN_NAMES}
 use Rattle.mk_recipe.specs.declared.report.ReportFault.{ReportFault}
 use Rattle.mk_recipe.specs.declared.report.ReportFault.TheVariants.{OutOfMemory, NotText, TooLong, TooMany}

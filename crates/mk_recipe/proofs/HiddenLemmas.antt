@@ -6,7 +6,7 @@ use Rattle.std.specs.Cmp.Lexicographic.{bytes_decides}
 use Rattle.std.proofs.lemmas.Map.Views.{any-filter_same}
 use Rattle.std.proofs.lemmas.Map.Keys.{IsDistinct-cons}
 use Rattle.mk_profile.specs.declared.profile.Profile.{Profile}
-use Rattle.mk_reader.specs.Lines.{joined_lines}
+use Rattle.mk_lines.specs.Lines.{joined_lines}
 use Rattle.mk_recipe.specs.Report.{has, mentioned, first_mentions, hidden_names}
 
 has-filter : (p : List ℕ → Bool) (name : List ℕ) (names : List (List ℕ)) → has name (filter p names) ≡ (p name && has name names)

@@ -4,8 +4,8 @@ use Rattle.std.specs.Prelude.{◌≡◌, ℕ, ◌+◌, ◌<◌, ◌≤◌, Bool,
 use Rattle.std.specs.List.{list_any, flat_map}
 use Rattle.byte_strings.specs.Blanks.{is_blank, words}
 use Rattle.mk_profile.specs.declared.profile.Profile.{Profile}
-use Rattle.mk_reader.specs.Text.{is_text}
-use Rattle.mk_reader.specs.Lines.{joined_lines}
+use Rattle.mk_lines.specs.Text.{is_text}
+use Rattle.mk_lines.specs.Lines.{joined_lines}
 use Rattle.mk_short_names.specs.Short.{name_in}
 use Rattle.st_records.specs.declared.limits.TheConstants.{MAX_NAME_BYTES, MAX_HIDDEN_NAMES}
 use Rattle.mk_recipe.specs.declared.report.ReportFault.{ReportFault}

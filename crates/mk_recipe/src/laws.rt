@@ -2,7 +2,7 @@
 ghost use Rattle.std.specs.Prelude.{◌≡◌, ℕ, Bool, not, ◌&&◌, List, ◌∷◌, Some, bytes_eq};
 ghost use Rattle.std.specs.List.{IsDistinct};
 ghost use Rattle.mk_profile.specs.declared.profile.Profile.{Profile};
-ghost use Rattle.mk_reader.specs.Lines.{joined_lines};
+ghost use Rattle.mk_lines.specs.Lines.{joined_lines};
 ghost use Rattle.mk_recipe.specs.declared.line.Line.{Line};
 ghost use Rattle.mk_recipe.specs.declared.line_status.LineStatus.{LineStatus};
 ghost use Rattle.mk_recipe.specs.declared.line_status.Outcome.{Outcome};

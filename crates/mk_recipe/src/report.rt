@@ -1,6 +1,6 @@
 //! The report of a target: the files that its commands have read beside those that the makefile names.
 ghost use Rattle.std.specs.Prelude.{◌≡◌, ℕ, ◌∷◌, [], List, Some, true, false, IfOk, IfErr, OnOk, ◌||◌, ◌⊎◌};
-ghost use Rattle.mk_reader.specs.Lines.{joined_lines};
+ghost use Rattle.mk_lines.specs.Lines.{joined_lines};
 ghost use Rattle.mk_recipe.specs.Report.{has, names_in, mentioned, AreHidden, IsReportFault};
 ghost use Rattle.mk_recipe.specs.Reading.{Reads, Stops};
 ghost use Rattle.mk_recipe.specs.declared.report.ReportFault.TheVariants.{TooMany};
@@ -8,8 +8,8 @@ ghost use Rattle.mk_recipe.specs.declared.report.ReportFault.TheVariants.{TooMan
 use crate::name_set::NameSet;
 use crate::report_line::names_on;
 use byte_strings::{ByteStrings, Words};
+use mk_lines::{is_text, next_joined_line};
 use mk_profile::Profile;
-use mk_reader::{is_text, next_joined_line};
 use mk_short_names::name_in;
 use st_records::{HashKey, MAX_HIDDEN_NAMES, MAX_NAME_BYTES};
 use std::alloc::{AllocError, Global};

@@ -5,8 +5,8 @@ ghost use Rattle.std.specs.Str.{is_utf8};
 ghost use Rattle.mk_seen.specs.TextNames.{HasTextNames};
 
 use mk_graph::Names;
+use mk_lines::is_utf8;
 use mk_nodes::Graph;
-use mk_reader::is_utf8;
 
 /// Whether a name is UTF-8. Most have ASCII alone, which is found sooner.
 pub(crate) fn is_text_name(name: &[u8]) -> bool

@@ -7,7 +7,7 @@ ghost use Rattle.mk_verdict.specs.Tests.{is_later, is_newer, is_changed, is_gone
 
 use crate::mark::{Look, MadeFile, Mark};
 use byte_strings::ByteStrings;
-use mk_reader::is_utf8;
+use mk_lines::is_utf8;
 use st_records::{PackedEntry, Phase};
 
 /// A prerequisite as it is now.

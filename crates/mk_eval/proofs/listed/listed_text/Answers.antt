@@ -1,6 +1,6 @@
 use Rattle.std.proofs.Common.{◌||◌, sym, ap, ◌∙◌}
 use Rattle.std.specs.List.{list_any}
-use Rattle.mk_reader.specs.Text.{is_dollar}
+use Rattle.mk_lines.specs.Text.{is_dollar}
 use Rattle.mk_macros.specs.Ranks.{defined_by}
 use Rattle.mk_wildcards.specs.Pattern.{has_wildcard}
 use Rattle.mk_eval.specs.Short.{has_other_names}

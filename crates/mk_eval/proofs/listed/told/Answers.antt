@@ -2,7 +2,7 @@ use Rattle.std.proofs.Common.{◌≡◌, true, sym, refl, ◌∙◌}
 use Rattle.std.specs.List.{list_any}
 use Rattle.mk_macros.specs.Expansion.{gives, fails}
 use Rattle.mk_macros.specs.Ranks.{defined_by, rule_meanings}
-use Rattle.mk_reader.specs.Text.{is_dollar}
+use Rattle.mk_lines.specs.Text.{is_dollar}
 use Rattle.mk_eval.proofs.MakefileLemmas.{names_expanded, fault_some}
 use Rattle.mk_eval.proofs.listed.told.Goals as goal
 

@@ -1,6 +1,6 @@
 use Rattle.std.proofs.Common.{sym, ap, ◌∙◌}
 use Rattle.std.specs.List.{list_any}
-use Rattle.mk_reader.specs.Text.{is_dollar}
+use Rattle.mk_lines.specs.Text.{is_dollar}
 use Rattle.mk_macros.specs.Expansion.{gives}
 use Rattle.mk_macros.specs.Ranks.{defined_by}
 use Rattle.mk_eval.proofs.MakefileLemmas.{names_stand, names_expanded, names_fault}

@@ -1,8 +1,8 @@
 use Rattle.std.proofs.Common.{◌≡◌, true, sym, ap, subst, ◌∙◌}
 use Rattle.mk_macros.specs.Ranks.{defined_by}
 use Rattle.mk_profile.specs.Profile.{is_wide}
-use Rattle.mk_reader.specs.Grammar.{Without, IsColonCut}
-use Rattle.mk_reader.specs.Quoted.{without_quoted}
+use Rattle.mk_lines.specs.References.{Without}
+use Rattle.mk_lines.specs.Quoted.{IsColonCut, without_quoted}
 use Rattle.mk_eval.specs.Static.{DefinesMacro}
 use Rattle.mk_eval.proofs.RuleLemmas.{static_given, plain_given}
 use Rattle.mk_eval.proofs.rule.evaluate_rule.Goals as goal

@@ -4,7 +4,7 @@ use Rattle.byte_strings.specs.Blanks.{first_word}
 use Rattle.mk_macros.specs.Expansion.{gives, fails, ExpandsTo, ExpandsToFault}
 use Rattle.mk_macros.specs.Ranks.{defined_by, rule_meanings}
 use Rattle.mk_reader.specs.Special.{special_name}
-use Rattle.mk_reader.specs.Text.{is_dollar}
+use Rattle.mk_lines.specs.Text.{is_dollar}
 use Rattle.mk_short_names.specs.Short.{short_name}
 use Rattle.mk_eval.proofs.MakefileLemmas.{names_stand, names_expanded, fault_some}
 use Rattle.mk_eval.proofs.special_rule.special_of.Goals as goal

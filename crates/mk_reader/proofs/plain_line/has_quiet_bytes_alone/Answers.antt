@@ -1,7 +1,7 @@
 use Rattle.std.proofs.Common.{◌+◌, ◌≤◌, ◌&&◌, length, drop, ap, ◌∙◌, arith}
 use Rattle.std.specs.List.{list_all}
 use Rattle.mk_reader.specs.Plain.{is_quiet}
-use Rattle.mk_reader.proofs.TextLemmas.{all_step, all_end}
+use Rattle.mk_lines.proofs.TextLemmas.{all_step, all_end}
 use Rattle.mk_reader.proofs.plain_line.has_quiet_bytes_alone.Goals as goal
 
 pub loop-at-preserved : goal.loop-at-preserved

@@ -1,8 +1,8 @@
 use Rattle.std.proofs.Common.{◌≡◌, ◌∷◌, option_copied, sym, ap, subst, ◌∙◌}
 use Rattle.mk_profile.specs.Profile.{is_wide}
-use Rattle.mk_reader.specs.Lines.{logical_lines}
+use Rattle.mk_lines.specs.Lines.{logical_lines}
 use Rattle.mk_reader.specs.Statements.{form_below, Comes}
-use Rattle.mk_reader.proofs.LinesLemmas.{no_lines_left}
+use Rattle.mk_lines.proofs.LinesLemmas.{no_lines_left}
 use Rattle.mk_reader.proofs.StatementLemmas.{told_said, comes_from_start, comes_at_end, taken_goes, taken_ends}
 use Rattle.mk_reader.proofs.statements.statements_in.Goals as goal
 

@@ -1,6 +1,6 @@
 use Rattle.std.proofs.Common.{List, option_copied}
 use Rattle.mk_profile.specs.Profile.{is_wide}
-use Rattle.mk_reader.specs.Lines.{logical_lines, size_left}
+use Rattle.mk_lines.specs.Lines.{logical_lines, size_left}
 use Rattle.mk_reader.specs.Statements.{AreStatements, Comes}
 use Rattle.mk_reader.specs.declared.item.Statement.{Statement}
 use Rattle.mk_reader.proofs.statements.statements_in.Given as goal

@@ -1,6 +1,6 @@
 use Rattle.std.proofs.Common.{List, [], Some, ℕ, Bool, subst, refl, inl, inr}
 use Rattle.std.proofs.lemmas.Result.{err_from_is_err_and}
-use Rattle.mk_reader.specs.Lines.{joined_lines}
+use Rattle.mk_lines.specs.Lines.{joined_lines}
 use Rattle.mk_recipe.specs.Report.{mentioned}
 use Rattle.mk_recipe.specs.Reading.{Reads}
 use Rattle.mk_recipe.proofs.report.hidden_names.Goals as goal

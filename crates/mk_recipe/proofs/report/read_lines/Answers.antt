@@ -1,5 +1,5 @@
 use Rattle.std.proofs.Common.{◌∙◌, Some, option_copied, ap}
-use Rattle.mk_reader.specs.Lines.{joined_lines}
+use Rattle.mk_lines.specs.Lines.{joined_lines}
 use Rattle.mk_recipe.specs.Report.{names_in, mentioned, names_on}
 use Rattle.mk_recipe.proofs.AnswerLemmas.{so_far_more, so_far_all, mentioned-cons, mentioned-none}
 use Rattle.mk_recipe.proofs.report.read_lines.Goals as goal

@@ -1,5 +1,5 @@
 use Rattle.std.proofs.Common.{option_copied}
-use Rattle.mk_reader.specs.Lines.{joined_lines, size_left}
+use Rattle.mk_lines.specs.Lines.{joined_lines, size_left}
 use Rattle.mk_recipe.specs.Report.{mentioned}
 use Rattle.mk_recipe.proofs.AnswerLemmas.{ReadsSoFar}
 use Rattle.mk_recipe.proofs.report.read_lines.Given as goal

@@ -1,6 +1,6 @@
 use Rattle.std.proofs.Common.{◌≡◌, true, sym, subst, ⊎_elim}
 use Rattle.std.proofs.lemmas.Result.{IfOk-weaker, IfErr-weaker}
-use Rattle.mk_reader.specs.Text.{is_text}
+use Rattle.mk_lines.specs.Text.{is_text}
 use Rattle.mk_recipe.specs.Report.{IsReportFault}
 use Rattle.mk_recipe.proofs.AnswerLemmas.{all_hidden, too_many, stopped}
 use Rattle.mk_recipe.proofs.report.read_report.Goals as goal

@@ -1,0 +1,13 @@
+pub mod CutLemmas
+pub mod JoinedLemmas
+pub mod LinesLemmas
+pub mod OpensLemmas
+pub mod OutsideLemmas
+pub mod PlaceLemmas
+pub mod QuotedLemmas
+pub mod ReferenceLemmas
+pub mod SearchLemmas
+pub mod SpellingLemmas
+pub mod SplitLemmas
+pub mod TextLemmas
+pub mod TextOfLemmas
