@@ -26,14 +26,13 @@ WAITING = {
     # What a record says of explicit names in each form; go with the next change of their crate.
     "crates/jb_recipe/proofs/NotingLemmas.antt": {"begun_says", "done_says", "failed_says"},
     "crates/st_recovery/proofs/MemoryLemmas.antt": {"comes_of_state"},
-    "crates/mk_reader/proofs/SearchLemmas.antt": {"read_further"},
 }
 WAITING_EXPORTS = {
     "bl_log": {"CriticalPath", "Ranked", "Span", "busy", "by_time", "critical_path", "lanes"},
     "jb_flags": {"Jobs", "jobs_of", "push_quoted"},
     "jb_marks": {"Known", "MemorySights", "Placed", "is_same"},
     "jb_recipe": {"Files"},
-    "jb_slots": {"Fifo", "FifoBank", "dry"},
+    "jb_slots": {"Fifo", "dry"},
     "mk_conditionals": {"BodyLine", "DirectiveLine", "Reading", "body_line"},
     "mk_eval": {"MAX_INCLUDE_DEPTH"},
     "mk_functions": {"MAX_CALLS", "MAX_PIECES", "MAX_VALUE"},
@@ -43,6 +42,9 @@ WAITING_EXPORTS = {
     "mk_plan": {"made_beside"},
     "mk_recipe": {"LineStatus", "Look", "Mark", "Prerequisite", "Told", "Verdict", "outcome"},
     "mk_seen": {"SeenFiles"},
+    # Types of fields that others read.
+    "mk_rule_lines": {"PoolCause", "PoolFault"},
+    "mk_settings": {"Pools"},
     # What dmk_run is to tell behind a goal that nothing makes.
     "near_names": {"nearest"},
     "mk_wildcards": {"Brackets", "Element", "elements", "fits_name"},

@@ -16,7 +16,10 @@ OPTION = r"(?<![\w-])(--?[A-Za-z][\w-]*)"
 STRING = r'"((?:[^"\\]|\\.)*)"'
 
 # Programs of tests, whose texts no user of dmk reads.
-TEST_CRATES = {"board_rows", "call_rows", "disk_rows", "record_rows", "row_files", "store_rows", "unit_tests", "word_rows", "worker_tests"}
+TEST_CRATES = {
+    "board_rows", "call_rows", "disk_rows", "flusher_tests", "record_rows", "row_files", "run_doubles", "store_rows", "unit_tests",
+    "word_rows", "worker_tests",
+}
 # No program stands on these yet.
 LATER_CRATES = set()
 
@@ -98,8 +101,10 @@ def options_of_zsh():
 
 def refused_options():
     """The options of other makes that are refused, as the program names them."""
-    rows = text_of("crates/dmk_words/src/option_table.rt").split("    Row {")[1:]
-    return {re.search("id: " + STRING, row)[1] for row in rows if "Role::Refused(" in row}
+    text = text_of("crates/dmk_words/src/option_table.rt")
+    constants = dict(re.findall(r"const (\w+): &str = " + STRING, text))
+    ids = [re.search("id: (?:%s|(\\w+))" % STRING, row) for row in text.split("    Row {")[1:] if re.search(r"Role::(Refused|Wide)\(", row)]
+    return {found[1] or constants[found[2]] for found in ids}
 
 
 def refused_of_using():

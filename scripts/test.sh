@@ -31,6 +31,7 @@ started=$SECONDS
 run_part env RT_JOBS="${RT_JOBS:-$lanes}" rt ci
 if [ "$failed" -eq 0 ]; then
     run_part python3 scripts/dead.py
+    run_part python3 scripts/sizes.py
     run_part bash scripts/must_not_compile.sh
     run_part python3 scripts/planted.py --built --lanes "$lanes"
     planted=$said
@@ -49,7 +50,9 @@ if [ "$failed" -eq 0 ]; then
     run_part bash scripts/two_runs.sh
     run_part python3 scripts/read_beside_runs.py
     run_part bash scripts/kill_runs.sh
+    run_part env SECONDS_LEFT=8 python3 scripts/stop_runs.py 72
     run_part python3 scripts/random_histories.py
+    run_part python3 scripts/random_turns.py crates/dmk/out/dmk 1 4
     run_part python3 scripts/tools.py
     run_part python3 scripts/refused_growths.py
     run_part bash scripts/guarantees.sh
