@@ -1,3 +1,4 @@
+pub mod DigitLemmas
 pub mod PieceLemmas
 pub mod TextLemmas
 pub mod WordLemmas

@@ -7,6 +7,7 @@
 mod blanks;
 mod byte_string;
 mod byte_strings;
+mod digits;
 mod iter;
 mod laws;
 mod text_words;
@@ -14,6 +15,7 @@ mod text_words;
 pub use blanks::{first_word, is_blank, trim, trim_end, trim_start};
 pub use byte_string::ByteString;
 pub use byte_strings::ByteStrings;
+pub use digits::number_of;
 pub use iter::Iter;
 pub use laws::words_of_joined_words;
 pub use text_words::{Words, next_word};

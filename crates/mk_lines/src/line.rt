@@ -42,12 +42,14 @@ impl Drop for LineText<'_> {
 impl<'a> LineText<'a> {
     ghost use Rattle.std.specs.Prelude.{◌≡◌, IfOk};
 
+    /// The text of a line that stands in the file as it is.
     pub fn part(part: &'a [u8]) -> LineText<'a>
         ensures { result ≡ part.now }
     {
         LineText { part, joined: None }
     }
 
+    /// The text of a line that was joined of several.
     pub fn joined(text: Vec<u8>) -> LineText<'a>
         ensures { result ≡ text.items }
     {
@@ -57,6 +59,7 @@ impl<'a> LineText<'a> {
         }
     }
 
+    /// The bytes of the text.
     pub fn as_slice(&self) -> &[u8]
         ensures { result.now ≡ self.now }
     {

@@ -14,6 +14,7 @@ use memchr::memchr;
 use mk_profile::Profile;
 use std::alloc::{AllocError, Global};
 
+/// Whether the first byte is this one.
 pub fn begins_with(bytes: &[u8], byte: u8) -> bool
     ensures { result ≡ begins_with byte bytes.now }
 {
@@ -23,6 +24,7 @@ pub fn begins_with(bytes: &[u8], byte: u8) -> bool
     }
 }
 
+/// Whether the last byte is this one.
 #[tactic(auto, unfolding(crate::specs::Text::ends_with))]
 pub fn ends_with(bytes: &[u8], byte: u8) -> bool
     ensures { result ≡ ends_with byte bytes.now }
@@ -33,6 +35,7 @@ pub fn ends_with(bytes: &[u8], byte: u8) -> bool
     }
 }
 
+/// The bytes in front of the last one; none of none.
 pub fn without_last(bytes: &[u8]) -> &[u8]
     ensures { result.now ≡ without_last bytes.now }
 {
@@ -52,6 +55,7 @@ fn without_tab(bytes: &[u8]) -> &[u8]
     }
 }
 
+/// The bytes behind the first one; none of none.
 pub fn without_first(bytes: &[u8]) -> &[u8]
     ensures { result.now ≡ drop 1 bytes.now }
 {
