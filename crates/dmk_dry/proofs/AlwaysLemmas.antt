@@ -1,7 +1,7 @@
 -- The lines that are run in a dry run too, as they are found while nodes are passed.
 use Rattle.std.proofs.Common.{◌≡◌, ◌+◌, ◌∙◌, ℕ, Bool, List, [], ◌∷◌, ◌++◌, length, refl, sym, ap, arith, append_assoc, append-nil, length-append}
 use Rattle.std.specs.List.{flat_map}
-use Rattle.mk_graph.specs.Numbering.{name_at}
+use Rattle.mk_names.specs.Names.{name_at}
 use Rattle.mk_plan.specs.Passage.{Passage, to_make, commands_of}
 use Rattle.mk_plan.specs.Passing.{told_in}
 use Rattle.mk_plan.specs.Telling.{lines_about}

@@ -1,7 +1,7 @@
 -- What was printed and answered, in the words of the plan.
 use Rattle.std.proofs.Common.{arith, ◌≡◌, ◌≢◌, ◌⊎◌, ◌∙◌, ◌&&◌, ◌<◌, inl, inr, ℕ, Bool, true, false, not, List, [], ◌∷◌, ◌++◌, map, append-nil, length, Option, None, Some, Result, Ok, Err, IfOk, IfErr, IsOk, IsErr, IsErrOf, refl, sym, ap, subst}
 use Rattle.std.specs.Io.KnownBytes.{Appends, Keeps}
-use Rattle.mk_graph.specs.Numbering.{name_at}
+use Rattle.mk_names.specs.Names.{name_at}
 use Rattle.mk_reader.specs.declared.item.Item.{Item}
 use Rattle.mk_profile.specs.declared.profile.Profile.{Profile}
 use Rattle.mk_plan.specs.Passage.{Passage}

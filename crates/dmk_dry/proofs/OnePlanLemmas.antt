@@ -7,7 +7,7 @@ use Rattle.std.specs.FinMap as map
 use Rattle.mk_reader.specs.declared.item.Item.{Item}
 use Rattle.mk_plan.specs.Passage.{Passage}
 use Rattle.mk_graph.specs.Edges.{row, has}
-use Rattle.mk_graph.specs.Numbering.{name_at}
+use Rattle.mk_names.specs.Names.{name_at}
 use Rattle.mk_graph.proofs.CycleLemmas.{closed_row}
 use Rattle.mk_nodes.specs.Graph.{IsGraph, AreRequired, required_in}
 use Rattle.mk_nodes.specs.Prerequisites.{is_made}

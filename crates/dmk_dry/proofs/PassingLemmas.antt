@@ -10,7 +10,7 @@ use Rattle.mk_graph.specs.Edges.{times}
 use Rattle.mk_plan.specs.declared.fault.RecipeFault.{RecipeFault}
 use Rattle.mk_plan.specs.declared.fault.RecipeFault.TheVariants as fault
 use Rattle.mk_nodes.specs.declared.graph.Graph.{Graph}
-use Rattle.mk_graph.specs.Numbering.{name_at}
+use Rattle.mk_names.specs.Names.{name_at}
 use Rattle.mk_plan.specs.Passage.{Passage, to_make, finished, is_listed, commands_of}
 use Rattle.mk_plan.specs.Passing.{Passes, is_to_be_run, is_up_to_date, has_no_recipe, is_left, IsFaultAt, told_in}
 use Rattle.mk_plan.specs.Telling.{lines_about}

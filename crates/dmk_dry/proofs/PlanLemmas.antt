@@ -1,7 +1,7 @@
 -- The stages of a plan put together.
 use Rattle.std.proofs.Common.{◌≡◌, ◌⊎◌, ◌||◌, inl, inr, ℕ, Bool, List, [], Option, Result, Ok, Err, IfOk, IfErr, refl, sym, ap, subst, ◌∙◌, true, false}
 use Rattle.std.specs.Prelude.{map as each}
-use Rattle.mk_graph.specs.Numbering.{name_at}
+use Rattle.mk_names.specs.Names.{name_at}
 use Rattle.std.specs.FinMap as map
 use Rattle.mk_plan.specs.declared.fault.RecipeFault.{RecipeFault}
 use Rattle.mk_reader.specs.declared.item.Item.{Item}

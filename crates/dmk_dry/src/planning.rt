@@ -2,7 +2,7 @@
 ghost use Rattle.std.specs.Prelude.{◌≡◌, ◌||◌, ℕ, true, List, Option, length, map, nat_lt, IfOk, IfErr, IsErrOf};
 ghost use Rattle.std.specs.List.{list_all};
 ghost use Rattle.mk_plan.specs.declared.fault.RecipeFault.{RecipeFault as LineFault};
-ghost use Rattle.mk_graph.specs.Numbering.{name_at};
+ghost use Rattle.mk_names.specs.Names.{name_at};
 ghost use Rattle.mk_reader.specs.declared.item.Item.{Item as MakefileItem};
 ghost use Rattle.mk_plan.specs.Passage.{Passage};
 ghost use Rattle.dmk_reading.specs.Definitions.{first_defined};

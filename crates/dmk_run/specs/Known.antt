@@ -1,7 +1,7 @@
 -- What a state knows of the targets of a graph. Own.
 use Rattle.std.specs.Prelude.{◌≡◌, ◌⊎◌, ℕ, Bool, true, List, Some, IsSome, slice_get}
 use Rattle.std.specs.FinMap as map
-use Rattle.mk_graph.specs.Numbering.{name_at}
+use Rattle.mk_names.specs.Names.{name_at}
 use Rattle.mk_nodes.specs.declared.graph.Graph.{Graph}
 use Rattle.mk_nodes.specs.declared.graph.Node.{Node}
 use Rattle.st_records.specs.declared.record.Entry.{Entry}

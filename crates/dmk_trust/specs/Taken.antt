@@ -1,7 +1,7 @@
 -- Which targets of a graph are taken as they are, and what is then recorded of them. Own; that a target is left which has a file and
 -- no later prerequisite is what POSIX make says where nothing is recorded.
 use Rattle.std.specs.Prelude.{◌≡◌, ℕ, Bool, true, false, List, [], ◌∷◌, ◌++◌, Option, Some, None, slice_set, option_to_list}
-use Rattle.mk_graph.specs.Numbering.{name_at}
+use Rattle.mk_names.specs.Names.{name_at}
 use Rattle.mk_rule_lines.specs.declared.fault.TextFault.{TextFault}
 use Rattle.mk_recipe.specs.Line.{Records}
 use Rattle.mk_recipe.specs.declared.line.Line.{Line}

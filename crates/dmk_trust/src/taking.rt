@@ -3,7 +3,7 @@ ghost use Rattle.std.specs.Prelude.{◌≡◌, ◌⊎◌, ◌<◌, ◌≤◌, �
 ghost use Rattle.std.specs.List.{list_all};
 ghost use Rattle.mk_rule_lines.specs.declared.fault.TextFault.{TextFault as ExpansionFault};
 ghost use Rattle.mk_recipe.specs.Line.{Records};
-ghost use Rattle.mk_graph.specs.Numbering.{name_at};
+ghost use Rattle.mk_names.specs.Names.{name_at};
 ghost use Rattle.mk_plan.specs.Passage.{Passage, to_make, commands_of};
 ghost use Rattle.mk_plan.specs.Passing.{Passes, IsFaultAt, is_remade, told_in};
 ghost use Rattle.mk_plan.specs.declared.fault.RecipeFault.TheVariants as faults;

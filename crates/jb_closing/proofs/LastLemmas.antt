@@ -6,8 +6,8 @@ use Rattle.std.specs.Ordering.{eq_by_cmp}
 use Rattle.std.specs.Cmp.Lexicographic.{nat_list_cmp_total}
 use Rattle.std.proofs.lemmas.Bool.{cases_Bool, cases_eq, cases_lt}
 use Rattle.std.proofs.lemmas.List.{length-replicate}
-use Rattle.mk_graph.specs.Numbering.{name_at, has_name}
-use Rattle.mk_graph.proofs.NameLemmas.{has_name_at}
+use Rattle.mk_names.specs.Names.{name_at, has_name}
+use Rattle.mk_names.proofs.NameLemmas.{has_name_at}
 use Rattle.mk_nodes.specs.Node.{EachHasOneNumber}
 use Rattle.std.proofs.lemmas.Option.{same_Some, slice_get_within}
 use Rattle.st_records.specs.declared.record.Record.{Record}

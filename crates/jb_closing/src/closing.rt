@@ -2,7 +2,7 @@
 ghost use Rattle.std.specs.Prelude.{◌≡◌, ◌≢◌, ℕ, ◌<◌, List, length, false, IfOk, IfErr, MatchOption, IsTrue, ◌↔◌};
 ghost use Rattle.st_disk.specs.Moments.{now};
 ghost use Rattle.st_state.specs.State.{replay};
-ghost use Rattle.mk_graph.specs.Numbering.{name_at};
+ghost use Rattle.mk_names.specs.Names.{name_at};
 ghost use Rattle.mk_nodes.specs.Node.{EachHasOneNumber};
 ghost use Rattle.bd_places.specs.declared.end.End.TheVariants.{Built};
 ghost use Rattle.jb_closing.specs.declared.fault.RunFault.TheVariants.{OutOfMemory};
@@ -16,7 +16,7 @@ use crate::{Report, RunFault};
 use bd_flusher::{FlushFault, Receipt, SiteIn};
 use bd_ledger::Ticket;
 use bd_places::End;
-use mk_graph::Names;
+use mk_names::Names;
 use mk_nodes::Graph;
 use st_disk::Disk;
 use st_records::{Form, Record};

@@ -4,7 +4,7 @@ ghost use Rattle.st_records.specs.declared.record.Record.{Record};
 ghost use Rattle.mk_nodes.specs.Node.{EachHasOneNumber};
 ghost use Rattle.jb_closing.specs.Last.{ArePlaces, IsDoneRecord};
 
-use mk_graph::Names;
+use mk_names::Names;
 use st_records::Record;
 use std::alloc::{AllocError, Global};
 

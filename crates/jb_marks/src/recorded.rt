@@ -5,7 +5,8 @@ ghost use Rattle.jb_marks.specs.Recorded.{hidden_marks, named_with, recorded_in}
 use crate::names::Recorded;
 use byte_strings::ByteString;
 use st_marks::{Marks, marks_of, parts_of};
-use st_records::{Named, PackedEntry};
+use st_packed::PackedEntry;
+use st_records::Named;
 use std::alloc::{AllocError, Global};
 
 /// None.

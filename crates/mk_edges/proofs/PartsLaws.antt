@@ -3,7 +3,7 @@ use Rattle.std.proofs.Common.{arith, ◌≡◌, ℕ, Bool, true, false, not, ◌
 use Rattle.std.specs.Prelude.{bytes_eq, slice_get, option_map, option_to_list}
 use Rattle.std.proofs.lemmas.Bool.{false_from_ne_true, eqb-true}
 use Rattle.std.proofs.lemmas.List.Folds.{list_any-append}
-use Rattle.mk_graph.specs.Numbering.{has_name, name_at}
+use Rattle.mk_names.specs.Names.{has_name, name_at}
 use Rattle.mk_nodes.specs.Node.{first_number, later_numbers, source_by, explicit_by}
 use Rattle.mk_nodes.specs.Prerequisites.{Inputs, distinct, made_from, source_name, implicit_source, hard_of, explicit_names}
 use Rattle.mk_rule_lines.specs.Explicit.{explicit_of}

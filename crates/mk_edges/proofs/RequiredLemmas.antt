@@ -6,10 +6,11 @@ use Rattle.std.proofs.lemmas.Bool.{and_from, and_parts, cases_lt}
 use Rattle.std.proofs.lemmas.List.{map-append, get_or_past}
 use Rattle.std.proofs.lemmas.List.Folds.{list_all-append}
 use Rattle.mk_graph.specs.Edges.{row, is_closed, has as has_number}
-use Rattle.mk_graph.specs.Numbering.{name_at, has_name, added, all_added, AreDescribed}
+use Rattle.mk_names.specs.Names.{name_at, has_name, added, all_added}
+use Rattle.mk_graph.specs.Numbering.{AreDescribed}
 use Rattle.mk_graph.proofs.CountedLemmas.{closed_from_below}
 use Rattle.mk_graph.proofs.RowLemmas.{list_all-has}
-use Rattle.mk_graph.proofs.NameLemmas.{all_added-append, list_all-all_added, has_name_at, same_bytes, added_new}
+use Rattle.mk_names.proofs.NameLemmas.{all_added-append, list_all-all_added, has_name_at, same_bytes, added_new}
 use Rattle.mk_nodes.specs.Graph.{AreHard, AreRequired}
 use Rattle.mk_edges.specs.Known.{IsKnown, listed_in}
 use Rattle.mk_nodes.specs.Prerequisites.{Inputs, hard_of, hidden_of, is_node, order_only_of, prerequisites_of, required_of}

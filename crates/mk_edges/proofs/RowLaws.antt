@@ -11,7 +11,8 @@ use Rattle.mk_graph.proofs.CountedLemmas.{below_from_closed, closed_from_below}
 use Rattle.mk_graph.proofs.CycleLemmas.{closed_row}
 use Rattle.mk_graph.specs.Cycle.{IsChain, IsCycle}
 use Rattle.std.proofs.lemmas.List.Folds.{list_all-append}
-use Rattle.mk_graph.specs.Numbering.{name_at, all_added, AreDescribed}
+use Rattle.mk_names.specs.Names.{name_at, all_added}
+use Rattle.mk_graph.specs.Numbering.{AreDescribed}
 use Rattle.mk_nodes.specs.Graph.{judged, judged_name, is_numbered, AreHard, IsNode}
 use Rattle.mk_edges.specs.Known.{IsKnown, nodes_among}
 use Rattle.mk_nodes.specs.Prerequisites.{Inputs, prerequisites_of, waited_for, judged_of, hard_of, hidden_of, soft_names, is_node, order_only_of}

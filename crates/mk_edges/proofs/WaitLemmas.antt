@@ -9,10 +9,10 @@ use Rattle.std.proofs.lemmas.List.Folds.{list_all-append}
 use Rattle.std.proofs.lemmas.Map.Keys.{apart_from_distinct}
 use Rattle.std.proofs.lemmas.Slice.Eq.{bytes_eq-Decides}
 use Rattle.mk_graph.specs.Edges.{row, is_closed, has as has_number}
-use Rattle.mk_graph.specs.Numbering.{name_at, has_name}
+use Rattle.mk_names.specs.Names.{name_at, has_name}
 use Rattle.mk_graph.specs.Waits.{all_of, waits}
 use Rattle.mk_graph.proofs.CountedLemmas.{below_from_closed, closed_from_below}
-use Rattle.mk_graph.proofs.NameLemmas.{has_name_at}
+use Rattle.mk_names.proofs.NameLemmas.{has_name_at}
 use Rattle.mk_graph.proofs.RowLemmas.{list_all-has}
 use Rattle.mk_profile.specs.declared.profile.Profile.{Profile}
 use Rattle.mk_rule_lines.specs.Explicit.{is_wait, is_bar, before_bar, behind_bar, words_by}

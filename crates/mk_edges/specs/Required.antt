@@ -2,7 +2,7 @@
 use Rattle.std.specs.Prelude.{◌≡◌, ℕ, Bool, true, List, length, map, filter, nat_lt, is_some, option_map, unwrap_or, Some, slice_get}
 use Rattle.std.specs.List.{list_all}
 use Rattle.mk_graph.specs.Edges.{row}
-use Rattle.mk_graph.specs.Numbering.{has_name, name_at}
+use Rattle.mk_names.specs.Names.{has_name, name_at}
 use Rattle.mk_edges.specs.Known.{listed_in}
 use Rattle.mk_nodes.specs.declared.graph.Node.{Node}
 

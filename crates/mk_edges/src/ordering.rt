@@ -4,12 +4,13 @@ ghost use Rattle.std.specs.List.{list_all};
 ghost use Rattle.mk_graph.specs.Counted.{counting, IsDropped};
 ghost use Rattle.mk_graph.specs.Cycle.{HasCycle};
 ghost use Rattle.mk_graph.specs.Edges.{is_closed};
-ghost use Rattle.mk_graph.specs.Numbering.{name_at};
+ghost use Rattle.mk_names.specs.Names.{name_at};
 ghost use Rattle.mk_graph.specs.Plan.{IsPlan};
 ghost use Rattle.mk_edges.specs.Ordering.{IsCycleFault};
 
 use byte_strings::ByteStrings;
-use mk_graph::{CountedOrder, Edges, Names, Order, counted_order};
+use mk_graph::{CountedOrder, Edges, Order, counted_order};
+use mk_names::Names;
 use mk_rule_lines::{CycleNames, RuleFault};
 use std::alloc::{AllocError, Global};
 

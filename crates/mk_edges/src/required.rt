@@ -2,7 +2,8 @@
 ghost use Rattle.std.specs.Prelude.{◌≡◌, ◌<◌, ◌||◌, ℕ, List, length, map, filter, nat_lt, true, unwrap_or, IfOk, OnOk, IsTrue};
 ghost use Rattle.std.specs.List.{list_any, list_all};
 ghost use Rattle.mk_graph.specs.Edges.{row, is_closed};
-ghost use Rattle.mk_graph.specs.Numbering.{AreDescribed, has_name, name_at};
+ghost use Rattle.mk_names.specs.Names.{has_name, name_at};
+ghost use Rattle.mk_graph.specs.Numbering.{AreDescribed};
 ghost use Rattle.mk_nodes.specs.Graph.{AreHard, AreRequired};
 ghost use Rattle.mk_edges.specs.Known.{IsKnown};
 ghost use Rattle.mk_nodes.specs.Prerequisites.{Inputs, prerequisites_of};
@@ -10,7 +11,8 @@ ghost use Rattle.mk_edges.specs.Required.{has_others, names_in_row, IsRequiredRo
 ghost use Rattle.mk_edges.specs.Rows.{EachRow};
 
 use byte_strings::ByteStrings;
-use mk_graph::{Edges, Names};
+use mk_graph::Edges;
+use mk_names::Names;
 use mk_nodes::Node;
 use std::alloc::{AllocError, Global};
 

@@ -3,7 +3,8 @@ ghost use Rattle.std.specs.Prelude.{◌≡◌, ℕ, List, length, map, IfOk, IsT
 ghost use Rattle.std.specs.List.{IsDistinct};
 ghost use Rattle.std.specs.Str.{bytes_eq};
 ghost use Rattle.mk_graph.specs.Edges.{is_closed};
-ghost use Rattle.mk_graph.specs.Numbering.{AreDescribed, name_at};
+ghost use Rattle.mk_names.specs.Names.{name_at};
+ghost use Rattle.mk_graph.specs.Numbering.{AreDescribed};
 ghost use Rattle.mk_nodes.specs.Graph.{AreSoft};
 ghost use Rattle.mk_edges.specs.Known.{IsKnown};
 ghost use Rattle.mk_nodes.specs.Prerequisites.{Inputs, prerequisites_of};

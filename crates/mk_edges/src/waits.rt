@@ -3,14 +3,15 @@ ghost use Rattle.std.specs.Prelude.{◌≡◌, ◌<◌, ◌&&◌, ◌||◌, ℕ,
 ghost use Rattle.std.specs.List.{IsDistinct, list_any, list_all};
 ghost use Rattle.std.specs.Str.{bytes_eq};
 ghost use Rattle.mk_graph.specs.Edges.{row, is_closed, has as has_number};
-ghost use Rattle.mk_graph.specs.Numbering.{has_name, name_at};
+ghost use Rattle.mk_names.specs.Names.{has_name, name_at};
 ghost use Rattle.mk_graph.specs.Waits.{BeginWith};
 ghost use Rattle.mk_rule_lines.specs.Explicit.{is_wait};
 ghost use Rattle.mk_nodes.specs.Waits.{groups_of, orders, line_orders, waits_in};
 
 use crate::rows::apart;
 use byte_strings::ByteStrings;
-use mk_graph::{Edges, Names, add_waits};
+use mk_graph::{Edges, add_waits};
+use mk_names::Names;
 use mk_rule_lines::{LineWords, RuleLine, is_wait, words_by};
 use std::alloc::{AllocError, Global};
 

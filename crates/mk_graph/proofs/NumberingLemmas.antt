@@ -7,11 +7,12 @@ use Rattle.std.proofs.lemmas.Option.{slice_get_within, slice_get-get_or, get_or_
 use Rattle.std.proofs.lemmas.Grind.{flat_map-append}
 use Rattle.std.specs.List.{list_all, flat_map}
 use Rattle.std.specs.Str.{bytes_eq}
-use Rattle.mk_graph.specs.Numbering.{name_at, has_name, all_added, IsNumbering, AreDescribed}
+use Rattle.mk_names.specs.Names.{name_at, has_name, all_added}
+use Rattle.mk_graph.specs.Numbering.{IsNumbering, AreDescribed}
 use Rattle.mk_graph.specs.NumberingFault.{IsNumberingFault, IsLimitFault}
 use Rattle.mk_graph.specs.declared.numbering.NumberingFault.{NumberingFault}
 use Rattle.mk_graph.specs.declared.numbering.NumberingFault.TheVariants.{OutOfMemory, TooMany, Source}
-use Rattle.mk_graph.proofs.NameLemmas.{Begins, begins_all_added, length_from_begins, name_at-begins, below_from_begins, row_from_begins, all_added-append, list_all-all_added, has_name_at, bytes_same}
+use Rattle.mk_names.proofs.NameLemmas.{Begins, begins_all_added, length_from_begins, name_at-begins, below_from_begins, row_from_begins, all_added-append, list_all-all_added, has_name_at, bytes_same}
 
 -- names so far, of which the first `done` were looked at: `of` gives prerequisites
 pub record Numbers (of : List ℕ → List (List ℕ)) (goals names : List (List ℕ)) (rows : List (List ℕ)) : Type 0 where

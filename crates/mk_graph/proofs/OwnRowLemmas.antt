@@ -10,7 +10,7 @@ use Rattle.byte_strings.proofs.PieceLemmas.{length-pieces}
 use Rattle.mk_graph.specs.Edges.{row, times, is_closed}
 use Rattle.mk_graph.specs.Users.{HasUsers, AreStarts, HasRoom}
 use Rattle.mk_graph.proofs.RowLemmas.{times-cons}
-use Rattle.mk_graph.proofs.EdgeLemmas.{row_at}
+use Rattle.mk_names.proofs.TextLemmas.{row_at}
 use Rattle.mk_graph.proofs.CycleLemmas.{closed_row}
 
 -- how many numbers of a list are below one

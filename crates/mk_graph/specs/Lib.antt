@@ -1,11 +1,7 @@
-pub mod Chains
 pub mod Counted
 pub mod Cycle
 pub mod Edges
-pub mod Ends
 pub mod Forms
-pub mod Hashing
-pub mod Links
 pub mod Numbering
 pub mod NumberingFault
 pub mod Order

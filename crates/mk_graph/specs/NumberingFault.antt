@@ -1,6 +1,7 @@
 -- What each refusal of the numbering says of its input. Own.
 use Rattle.std.specs.Prelude.{◌≡◌, ℕ, ◌<◌, true, List, length}
-use Rattle.mk_graph.specs.Numbering.{IsNumbering, has_name}
+use Rattle.mk_names.specs.Names.{has_name}
+use Rattle.mk_graph.specs.Numbering.{IsNumbering}
 use Rattle.mk_graph.specs.declared.numbering.NumberingFault.{NumberingFault}
 use Rattle.mk_graph.specs.declared.numbering.NumberingFault.TheVariants.{OutOfMemory, TooMany, Source}
 

@@ -10,8 +10,8 @@ ghost use Rattle.mk_graph.specs.Users.{HasUsers};
 ghost use Rattle.std.specs.List.{list_all};
 
 use crate::packed_rows::{PackedRows, short};
-use crate::room::{append, push};
 use crate::shared_rows::SharedRows;
+use mk_names::{append, push};
 use std::alloc::{AllocError, Global};
 use std::marker::Model;
 

@@ -2,29 +2,22 @@
 //! that order nodes. Nothing here knows what a node stands for.
 #![tactic(auto)]
 
-mod chains;
 mod counting;
 mod cycles;
 mod edges;
-mod hashing;
-mod names;
 mod node_lists;
 mod numbering;
 mod packed_rows;
 mod planning;
 mod ready;
-mod room;
 mod shared_rows;
-mod texts;
 mod users;
 mod waiting;
 mod watching;
 
 pub use counting::{CountedOrder, counted_edges, counted_order};
-pub use cycles::{Order, order_nodes};
+pub use cycles::Order;
 pub use edges::{Edges, Parts};
-pub use names::Names;
 pub use numbering::{Dependencies, Expected, Numbered, NumberingFault, distinct_names, number};
 pub use planning::{one_plan, plan, whole_plan};
-pub use room::with_room;
 pub use waiting::add_waits;

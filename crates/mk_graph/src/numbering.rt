@@ -4,13 +4,13 @@ ghost use Rattle.std.specs.Prelude.{◌≡◌, ℕ, ◌<◌, ◌≤◌, ◌⊎�
 ghost use Rattle.std.specs.List.{list_all, IsDistinct};
 ghost use Rattle.std.specs.Str.{bytes_eq};
 ghost use Rattle.mk_graph.specs.Edges.{is_closed};
-ghost use Rattle.mk_graph.specs.Numbering.{IsNumbering, AreDescribed, DistinctNames, name_at, has_name, all_added};
+ghost use Rattle.mk_names.specs.Names.{name_at, has_name, all_added};
+ghost use Rattle.mk_graph.specs.Numbering.{IsNumbering, AreDescribed, DistinctNames};
 ghost use Rattle.mk_graph.specs.NumberingFault.{IsNumberingFault, IsLimitFault};
 
 use crate::edges::Edges;
-use crate::names::Names;
-use crate::room::with_room;
 use byte_strings::ByteStrings;
+use mk_names::{Names, with_room};
 use std::alloc::{AllocError, AllocFailed, Global};
 
 // Room is taken for names of so many bytes.

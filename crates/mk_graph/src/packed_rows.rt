@@ -5,8 +5,8 @@ ghost use Rattle.mk_graph.specs.Edges.{row, is_closed, AreUsers};
 ghost use Rattle.mk_graph.specs.Users.{HasRoom, HasUsers};
 ghost use Rattle.byte_strings.specs.Pieces.{pieces, AreEnds};
 
-use crate::room::{append, make_room, with_room};
 use crate::users::{counted, note_user, starts_behind, starts_of};
+use mk_names::{append, make_room, with_room};
 use std::alloc::{AllocError, Global};
 use std::marker::Model;
 

@@ -9,8 +9,8 @@ ghost use Rattle.mk_graph.specs.Watching.{can_pass, AreWatched, AreReleased};
 
 use crate::edges::Edges;
 use crate::ready::ReadyNodes;
-use crate::room::push;
 use crate::watching::Waiting;
+use mk_names::push;
 use std::alloc::{AllocError, Global};
 
 /// Takes out the least of the nodes that are ready; where there is none, the nodes that weren't looked at yet are, one by one.

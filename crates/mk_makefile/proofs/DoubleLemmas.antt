@@ -1,12 +1,12 @@
 -- Which lines have `::`, and what it means that a name is a target of both kinds of rules.
 use Rattle.std.specs.Bool.{Decides}
 use Rattle.std.specs.List.{Any, All, list_any, flat_map}
-use Rattle.std.proofs.Common.{◌≡◌, ◌∙◌, ◌<◌, ℕ, Bool, true, false, cond, ◌||◌, List, [], ◌∷◌, ◌++◌, length, filter, refl, sym, ap, subst, get_or, bytes_eq}
+use Rattle.std.proofs.Common.{◌≡◌, ◌∙◌, ◌<◌, ℕ, Bool, true, false, cond, ◌||◌, List, [], ◌∷◌, length, filter, refl, sym, ap, subst, get_or, bytes_eq}
 use Rattle.std.proofs.lemmas.Bool.{both_ways, or_left, or_right}
 use Rattle.std.proofs.lemmas.Slice.Eq.{bytes_eq-Decides}
 use Rattle.std.proofs.lemmas.List.Folds.{list_any-from_Any, list_any-append}
-use Rattle.mk_graph.specs.Numbering.{has_name, added, all_added}
-use Rattle.mk_graph.proofs.NameLemmas.{all_added-append, same_bytes}
+use Rattle.mk_names.specs.Names.{has_name, all_added}
+use Rattle.mk_names.proofs.NameLemmas.{all_added-append, has_all_added}
 use Rattle.mk_makefile.specs.Doubles.{IsDoubleOf, IsSingleOf, AreApart, HasBothKinds}
 use Rattle.mk_makefile.specs.Kinded.{double_targets, single_targets, all_single_targets}
 use Rattle.mk_rule_lines.specs.Rules.{has, is_rule, is_double_recipe}
@@ -33,31 +33,6 @@ no_part l e = simp e refl
 
 pub one_part : (l : RuleLine) → is_double_recipe l ≡ true → part l ≡ l ∷ []
 one_part l e = simp e refl
-
--- ---- names that are taken in once
-
-or_none : (a : Bool) → (a || false) ≡ a
-or_none true = refl
-or_none false = refl
-
-or_both : (a b c : Bool) → ((a || b) || c) ≡ (a || (b || c))
-or_both true b c = refl
-or_both false b c = refl
-
-has_added : (names : List (List ℕ)) (name target : List ℕ) → has_name (added names name) target ≡ (has_name names target || bytes_eq target name)
-has_added names name target = by (has_name names name) refl (bytes_eq target name) refl
-  where
-    by : (b : Bool) → has_name names name ≡ b → (c : Bool) → bytes_eq target name ≡ c →
-        has_name (cond b (names) (names ++ name ∷ [])) target ≡ (has_name names target || c)
-    by true e true f = let there : has_name names target ≡ true = ap (has_name names) (same_bytes target name f) ∙ e in there ∙ sym (ap (λ b. b || true) there)
-    by true e false f = sym (or_none (has_name names target))
-    by false e c f = list_any-append (bytes_eq target) names (name ∷ []) ∙ ap (λ b. has_name names target || b) (or_none (bytes_eq target name) ∙ f)
-
-has_all_added : (names mentioned : List (List ℕ)) (target : List ℕ) → has_name (all_added names mentioned) target ≡ (has_name names target || has_name mentioned target)
-has_all_added names [] target = sym (or_none (has_name names target))
-has_all_added names (name ∷ more) target =
-    has_all_added (added names name) more target ∙ ap (λ b. b || has_name more target) (has_added names name target)
-    ∙ or_both (has_name names target) (bytes_eq target name) (has_name more target)
 
 -- ---- targets of rules
 

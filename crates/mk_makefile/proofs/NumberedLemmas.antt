@@ -5,8 +5,8 @@ use Rattle.std.specs.List.{IsDistinct}
 use Rattle.std.specs.Str.{bytes_eq}
 use Rattle.std.proofs.lemmas.List.{get_or_append_left}
 use Rattle.std.proofs.lemmas.Map.Keys.{IsDistinct-tail, apart_from_distinct}
-use Rattle.mk_graph.specs.Numbering.{name_at, has_name, added}
-use Rattle.mk_graph.proofs.NameLemmas.{bytes_same, has_name_at, added_new}
+use Rattle.mk_names.specs.Names.{name_at, has_name, added}
+use Rattle.mk_names.proofs.NameLemmas.{bytes_same, has_name_at, added_new}
 use Rattle.mk_makefile.specs.Named.{Named, nothing_named, named_in}
 use Rattle.mk_rule_lines.proofs.NameLemmas.{bytes_eq-same}
 

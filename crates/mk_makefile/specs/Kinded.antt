@@ -1,7 +1,7 @@
 -- What the private functions compute of the two kinds of rules. `Doubles` says what it means.
 use Rattle.std.specs.Prelude.{ℕ, Bool, not, ◌||◌, List, [], if◌then◌else◌}
 use Rattle.std.specs.List.{flat_map}
-use Rattle.mk_graph.specs.Numbering.{all_added}
+use Rattle.mk_names.specs.Names.{all_added}
 use Rattle.mk_rule_lines.specs.Rules.{is_rule}
 use Rattle.mk_rule_lines.specs.declared.rule_line.RuleLine.{RuleLine}
 

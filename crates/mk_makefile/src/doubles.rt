@@ -2,14 +2,14 @@
 ghost use Rattle.std.specs.Prelude.{◌≡◌, ◌++◌, ◌&&◌, true, false, ℕ, List, IfOk, IfErr, OnOk, MatchOption, map};
 ghost use Rattle.std.specs.List.{list_any, flat_map};
 ghost use Rattle.std.specs.Option.{option_copied};
-ghost use Rattle.mk_graph.specs.Numbering.{has_name, all_added};
+ghost use Rattle.mk_names.specs.Names.{has_name, all_added};
 ghost use Rattle.mk_makefile.specs.Doubles.{double_lines, is_double_recipe_at, first_double, AreApart, IsKindsFault};
 ghost use Rattle.mk_rule_lines.specs.Explicit.{numbers_of};
 ghost use Rattle.mk_rule_lines.specs.Rules.{has};
 ghost use Rattle.mk_makefile.specs.Kinded.{is_double, double_targets, single_targets, all_single_targets};
 
 use byte_strings::ByteString;
-use mk_graph::Names;
+use mk_names::Names;
 use mk_rule_lines::{RuleFault, RuleLine};
 use std::alloc::{AllocError, Global};
 

@@ -5,7 +5,7 @@ ghost use Rattle.mk_makefile.specs.Table.{is_last, with_line, with_target, named
 ghost use Rattle.mk_rule_lines.specs.Rules.{lacks_single, targets_by};
 
 use byte_strings::{ByteString, ByteStrings};
-use mk_graph::Names;
+use mk_names::Names;
 use mk_rule_lines::{RuleFault, RuleLine};
 use std::alloc::{AllocError, Global};
 use std::marker::Model;

@@ -1,6 +1,6 @@
 -- What is said of a text is what it is the text of.
 use Rattle.std.proofs.Common.{◌≡◌, ◌∙◌, ℕ, List, [], ◌∷◌, length, Option, Some, None, Result, Ok, Err, refl, ap, subst}
-use Rattle.st_records.specs.declared.decoder.DecodeFault.{DecodeFault}
+use Rattle.st_records.specs.declared.fault.DecodeFault.{DecodeFault}
 use Rattle.st_records.specs.Reading.{◌>>=◌, number_at}
 use Rattle.st_records.proofs.Fields.{IsBytes, bind_ok, ok_is}
 use Rattle.st_marks.specs.declared.mark.Mark.{Mark}

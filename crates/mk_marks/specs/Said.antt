@@ -1,6 +1,6 @@
 -- What a text of marks says, read from the left; the law `what_is_said` has it that this is just what it is the text of.
 use Rattle.std.specs.Prelude.{ℕ, List, [], ◌∷◌, Option, Some, None, Result, Ok, Err}
-use Rattle.st_records.specs.declared.decoder.DecodeFault.{DecodeFault}
+use Rattle.st_records.specs.declared.fault.DecodeFault.{DecodeFault}
 use Rattle.st_records.specs.Reading.{◌>>=◌, number_at}
 use Rattle.st_marks.specs.declared.mark.Mark.{Mark}
 use Rattle.st_marks.specs.Reading.{source_at, mark_at, many_at}

@@ -9,5 +9,4 @@ mod noted;
 
 pub use kept::Kept;
 pub use laws::what_is_said;
-pub use mark::mark_of;
 pub use noted::{Noted, note_of};

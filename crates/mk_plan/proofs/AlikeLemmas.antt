@@ -5,7 +5,7 @@ use Rattle.std.specs.Option.{option_map_or}
 use Rattle.std.proofs.Common.{◌≡◌, ◌∙◌, ◌⊎◌, ℕ, ℤ, Bool, true, false, not, cond, List, [], ◌∷◌, ◌++◌, map, filter, Option, Some, None, refl, sym, ap, subst}
 use Rattle.bstr.specs.Utf8.{lossy_chars}
 use Rattle.mk_graph.specs.Edges.{row}
-use Rattle.mk_graph.specs.Numbering.{all_added, name_at, has_name}
+use Rattle.mk_names.specs.Names.{all_added, name_at, has_name}
 use Rattle.mk_macros.specs.Ranks.{Defined, meanings_of}
 use Rattle.mk_macros.specs.declared.dynamic.Dynamic.TheVariants as dynamic
 use Rattle.mk_macros.specs.declared.dynamic.RecipeNames.{RecipeNames}

@@ -9,7 +9,7 @@ use Rattle.std.proofs.lemmas.List.{append-nil}
 use Rattle.std.proofs.lemmas.List.Folds.{list_all-append, list_all-map}
 use Rattle.std.proofs.lemmas.Slice.Eq.{bytes_eq-Decides}
 use Rattle.mk_graph.specs.Edges.{row}
-use Rattle.mk_graph.specs.Numbering.{name_at}
+use Rattle.mk_names.specs.Names.{name_at}
 use Rattle.mk_marks.specs.declared.kept.Kept.{Kept}
 use Rattle.mk_marks.specs.declared.noted.Noted.{Noted}
 use Rattle.mk_recipe.proofs.RecordedLemmas.{recorded_by}

@@ -5,7 +5,7 @@ use Rattle.std.proofs.Common.{◌≡◌, ◌∙◌, ◌<◌, ℕ, List, [], ◌�
 use Rattle.std.proofs.lemmas.List.{take-map, drop-map, length-map}
 use Rattle.std.proofs.lemmas.Option.{slice_get_cases}
 use Rattle.mk_graph.specs.Edges.{row}
-use Rattle.mk_graph.specs.Numbering.{all_added, name_at}
+use Rattle.mk_names.specs.Names.{all_added, name_at}
 use Rattle.mk_rule_lines.specs.Explicit.{explicit_of as names_written}
 use Rattle.mk_rule_lines.specs.declared.rule_line.RuleLine.{RuleLine}
 use Rattle.mk_nodes.specs.Graph.{IsNode, IsGraph, judged, required_in}
@@ -23,7 +23,7 @@ use Rattle.mk_nodes.specs.Look.{time_of}
 use Rattle.mk_nodes.specs.declared.file_look.FileLook.{FileLook}
 use Rattle.mk_nodes.specs.declared.group.Group.{Group}
 use Rattle.mk_plan.specs.Words.{implied_names}
-use Rattle.mk_graph.proofs.NameLemmas.{all_added-append}
+use Rattle.mk_names.proofs.NameLemmas.{all_added-append}
 use Rattle.mk_nodes.proofs.FreshLemmas.{front_added}
 
 or_map : {A B : Type 0} (f : A → B) (o : Option A) (d : B) → unwrap_or (option_map f o) d ≡ option_map_or f o d

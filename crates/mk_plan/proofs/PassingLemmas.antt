@@ -1,6 +1,6 @@
 -- What a verdict says of a node that is passed.
 use Rattle.std.proofs.Common.{◌≡◌, ◌∙◌, ℕ, Bool, true, false, List, [], ◌∷◌, Option, Some, None, Result, Ok, Err, IfOk, option_map, ap, sym, subst}
-use Rattle.mk_graph.specs.Numbering.{name_at}
+use Rattle.mk_names.specs.Names.{name_at}
 use Rattle.mk_recipe.specs.declared.line.Line.{Line}
 use Rattle.mk_verdict.specs.Verdict.{IsVerdict, IsFirstReason, IsOutOfDate}
 use Rattle.mk_verdict.specs.declared.verdict.Target.{Target}

@@ -6,7 +6,7 @@ use Rattle.std.specs.Str.{is_utf8}
 use Rattle.std.proofs.Common.{◌≡◌, ◌≢◌, ◌⊎◌, ◌∙◌, ℕ, Bool, true, false, not, ◌&&◌, List, [], ◌∷◌, ◌++◌, map, Option, Some, None, refl, sym, ap, subst}
 use Rattle.std.proofs.lemmas.Option.{same_Some, slice_get-map}
 use Rattle.bstr.specs.Utf8.{lossy_chars}
-use Rattle.mk_graph.specs.Numbering.{name_at}
+use Rattle.mk_names.specs.Names.{name_at}
 use Rattle.mk_macros.specs.Words.{to_directory, to_file, changed_words}
 use Rattle.mk_macros.specs.Dynamic.{words_in, whole_value, recipe_value}
 use Rattle.mk_profile.specs.declared.profile.Profile.{Profile}

@@ -1,7 +1,7 @@
 -- The words of `$+`, where there are any.
 use Rattle.std.specs.Prelude.{Bool, true, false, if◌then◌else◌, is_some, option_map, IfSome}
 use Rattle.std.proofs.Common.{◌≡◌, ◌∙◌, ℕ, List, ◌++◌, Option, Some, None, ap}
-use Rattle.mk_graph.specs.Numbering.{name_at}
+use Rattle.mk_names.specs.Names.{name_at}
 use Rattle.mk_profile.specs.Profile.{is_wide}
 use Rattle.mk_rule_lines.specs.Explicit.{explicit_of}
 use Rattle.mk_nodes.specs.declared.graph.Graph.{Graph}

@@ -2,7 +2,7 @@
 -- has nothing, and the wide one what GNU make has.
 use Rattle.std.specs.Prelude.{ℕ, Bool, not, ◌&&◌, if◌then◌else◌, List, [], ◌∷◌, ◌++◌, map, flat_map, slice_index_or, Option, Some, None, is_some, option_and_then, option_to_list}
 use Rattle.mk_graph.specs.Edges.{row}
-use Rattle.mk_graph.specs.Numbering.{name_at}
+use Rattle.mk_names.specs.Names.{name_at}
 use Rattle.mk_macros.specs.Words.{without_end}
 use Rattle.mk_profile.specs.Profile.{is_wide}
 use Rattle.mk_rule_lines.specs.Explicit.{names_in}

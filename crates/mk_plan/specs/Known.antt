@@ -2,7 +2,7 @@
 use Rattle.std.specs.Prelude.{◌≡◌, ℕ, List, [], ◌++◌, drop, length, map, is_some, option_map, option_and_then, unwrap_or, slice_get}
 use Rattle.std.specs.Option.{option_map_or}
 use Rattle.mk_graph.specs.Edges.{row}
-use Rattle.mk_graph.specs.Numbering.{all_added, name_at}
+use Rattle.mk_names.specs.Names.{all_added, name_at}
 use Rattle.mk_rule_lines.specs.Explicit.{explicit_of as names_written}
 use Rattle.mk_nodes.specs.Graph.{judged, judged_name}
 use Rattle.mk_nodes.specs.Groups.{made_time, made_beside as names_beside}

@@ -2,7 +2,7 @@
 use Rattle.std.specs.Prelude.{◌≡◌, ◌⊎◌, ℕ, Bool, ◌&&◌, IsTrue, List, [], ◌∷◌, None}
 use Rattle.std.specs.List.{Any}
 use Rattle.mk_graph.specs.Edges.{row}
-use Rattle.mk_graph.specs.Numbering.{name_at}
+use Rattle.mk_names.specs.Names.{name_at}
 use Rattle.mk_verdict.specs.Marks.{Differs}
 use Rattle.mk_verdict.specs.Verdict.{IsLater}
 use Rattle.mk_verdict.specs.declared.mark.Mark.{Mark}

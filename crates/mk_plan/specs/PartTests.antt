@@ -1,6 +1,6 @@
 -- What the private functions of a line with `::` compute. `PartWords` says what it means.
 use Rattle.std.specs.Prelude.{ℕ, ℤ, Bool, ◌&&◌, List, map, filter, Option}
-use Rattle.mk_graph.specs.Numbering.{name_at, has_name}
+use Rattle.mk_names.specs.Names.{name_at, has_name}
 use Rattle.mk_verdict.specs.declared.mark.Mark.{Mark}
 use Rattle.mk_nodes.specs.declared.graph.Graph.{Graph}
 use Rattle.mk_seen.specs.Marks.{hard_marked}

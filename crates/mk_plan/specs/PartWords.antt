@@ -1,7 +1,7 @@
 -- What `$^`, `$+` and `$?` stand for in the part of a node's recipe that one line has: in a line with `::` they speak of its own
 -- prerequisites (GNU make), in any other of the node's.
 use Rattle.std.specs.Prelude.{ℕ, if◌then◌else◌, List, filter}
-use Rattle.mk_graph.specs.Numbering.{name_at, has_name}
+use Rattle.mk_names.specs.Names.{name_at, has_name}
 use Rattle.mk_rule_lines.specs.Explicit.{names_in}
 use Rattle.mk_rule_lines.specs.declared.rule_line.RuleLine.{RuleLine}
 use Rattle.mk_nodes.specs.Prerequisites.{distinct}

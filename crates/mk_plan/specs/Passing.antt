@@ -2,7 +2,7 @@
 -- as built is what make(1S) says of -n.
 use Rattle.std.specs.Prelude.{◌≡◌, ℕ, Bool, true, false, List, [], ◌∷◌, Some, None}
 use Rattle.std.specs.List.{list_any}
-use Rattle.mk_graph.specs.Numbering.{name_at}
+use Rattle.mk_names.specs.Names.{name_at}
 use Rattle.mk_recipe.specs.declared.line.Line.{Line}
 use Rattle.mk_verdict.specs.Verdict.{IsOutOfDate}
 use Rattle.mk_verdict.specs.declared.verdict.Target.{Target}

@@ -15,7 +15,7 @@ use Rattle.mk_rule_lines.specs.declared.rule_line.RuleLine.{RuleLine}
 use Rattle.mk_recipe.specs.Line.{IsLine}
 use Rattle.mk_recipe.specs.declared.line.Line.{Line}
 use Rattle.mk_nodes.specs.declared.graph.Graph.{Graph}
-use Rattle.mk_graph.specs.Numbering.{name_at}
+use Rattle.mk_names.specs.Names.{name_at}
 use Rattle.mk_plan.specs.ExplicitWords.{source_word, stem_word}
 use Rattle.mk_plan.specs.Nodes.{AreNewer}
 use Rattle.mk_plan.specs.PartWords.{once_in, written_in, hard_in}

@@ -2,7 +2,7 @@
 use Rattle.std.specs.Prelude.{ℕ, ℤ, Bool, ◌||◌, List, map, filter, Option, is_none}
 use Rattle.std.specs.List.{list_any}
 use Rattle.mk_graph.specs.Edges.{row}
-use Rattle.mk_graph.specs.Numbering.{name_at}
+use Rattle.mk_names.specs.Names.{name_at}
 use Rattle.mk_verdict.specs.Tests.{is_later, mark_differs}
 use Rattle.mk_verdict.specs.declared.mark.Mark.{Mark}
 use Rattle.mk_nodes.specs.declared.graph.Graph.{Graph}

@@ -2,7 +2,7 @@
 use Rattle.std.specs.Prelude.{◌≡◌, ℕ, Bool, false, not, ◌&&◌, if◌then◌else◌, List, ◌++◌, map, slice_get, Option, Some, None, is_none, codes, encode_utf8_all}
 use Rattle.bstr.specs.Utf8.{lossy_chars}
 use Rattle.mk_graph.specs.Edges.{row}
-use Rattle.mk_graph.specs.Numbering.{all_added, name_at}
+use Rattle.mk_names.specs.Names.{all_added, name_at}
 use Rattle.mk_verdict.specs.Told.{words_for}
 use Rattle.mk_verdict.specs.Verdict.{IsFirstReason, IsOutOfDate}
 use Rattle.mk_verdict.specs.declared.verdict.Prerequisite.{Prerequisite}

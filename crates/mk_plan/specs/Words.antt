@@ -2,7 +2,7 @@
 -- strict profile has no such macros.
 use Rattle.std.specs.Prelude.{ℕ, if◌then◌else◌, List, ◌++◌, drop, length, map, Option, Some, None}
 use Rattle.mk_graph.specs.Edges.{row}
-use Rattle.mk_graph.specs.Numbering.{name_at}
+use Rattle.mk_names.specs.Names.{name_at}
 use Rattle.mk_profile.specs.Profile.{is_wide}
 use Rattle.mk_profile.specs.declared.profile.Profile.{Profile}
 use Rattle.mk_rule_lines.specs.Explicit.{explicit_of}

@@ -1,7 +1,7 @@
 //! Whether a node is up to date, found in one walk over its files and its recipe, without a list of either.
 ghost use Rattle.std.specs.Prelude.{◌≡◌, ◌<◌, ◌∷◌, ◌&&◌, [], true, false, length, Some, IfOk};
 ghost use Rattle.std.specs.Bool.{OnTrue};
-ghost use Rattle.mk_graph.specs.Numbering.{name_at};
+ghost use Rattle.mk_names.specs.Names.{name_at};
 ghost use Rattle.mk_seen.specs.Leaving.{is_kept, leaves_all};
 ghost use Rattle.mk_seen.specs.Nodes.{entry_of};
 ghost use Rattle.mk_seen.specs.TextNames.{HasTextNames};
@@ -14,7 +14,7 @@ use crate::parts::is_part;
 use mk_nodes::Graph;
 use mk_rule_lines::RuleLine;
 use mk_seen::{entry_of, is_kept, leaves_all, noted_in};
-use st_records::PackedEntry;
+use st_packed::PackedEntry;
 use std::alloc::{AllocError, Global};
 
 /// Whether neither the entry that the state has of a node nor one of its files is a reason to make it.

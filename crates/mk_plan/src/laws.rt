@@ -1,6 +1,6 @@
 //! What holds of the definitions alone. The functions do nothing: what they ensure is the law.
 ghost use Rattle.std.specs.Prelude.{◌≡◌, ◌<◌, ℕ, Bool, List, length};
-ghost use Rattle.mk_graph.specs.Numbering.{name_at};
+ghost use Rattle.mk_names.specs.Names.{name_at};
 ghost use Rattle.mk_plan.specs.Known.{IsNodeOf};
 ghost use Rattle.mk_plan.specs.Passage.{Passage};
 ghost use Rattle.mk_plan.specs.Passing.{Passes};

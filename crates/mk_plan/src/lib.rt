@@ -20,7 +20,7 @@ mod words;
 
 pub use fault::RecipeFault;
 pub use laws::{nodes_by_name, one_passing};
-pub use mk_seen::{explicit_of, has_text_names, made_beside, name_of};
+pub use mk_seen::{explicit_of, has_text_names, name_of};
 pub use parts::{LinePlace, line_place};
 pub use passing::{Passed, pass, pass_in};
 pub use telling::{Telling, told_lines, why_lines};

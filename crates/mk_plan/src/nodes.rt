@@ -2,7 +2,7 @@
 ghost use Rattle.std.specs.Prelude.{◌≡◌, ◌<◌, ◌||◌, length, map, IfOk};
 ghost use Rattle.std.specs.List.{list_any};
 ghost use Rattle.mk_graph.specs.Edges.{row};
-ghost use Rattle.mk_graph.specs.Numbering.{name_at};
+ghost use Rattle.mk_names.specs.Names.{name_at};
 ghost use Rattle.mk_seen.specs.Nodes.{is_marked};
 ghost use Rattle.mk_plan.specs.Nodes.{was_cut};
 ghost use Rattle.mk_plan.specs.Tests.{is_newer_than, newer_words, ends_remade};

@@ -1,6 +1,6 @@
 //! The words of `$?`, `$^` and `$+` in the recipe of a line with `::`, which speak of the line's own prerequisites.
 ghost use Rattle.std.specs.Prelude.{◌≡◌, ◌<◌, true, length, map, IfOk, OnOk};
-ghost use Rattle.mk_graph.specs.Numbering.{all_added};
+ghost use Rattle.mk_names.specs.Names.{all_added};
 ghost use Rattle.mk_rule_lines.specs.Explicit.{names_in};
 ghost use Rattle.mk_nodes.specs.Prerequisites.{distinct};
 ghost use Rattle.mk_plan.specs.Parts.{language_of, is_part};
@@ -10,7 +10,7 @@ ghost use Rattle.mk_plan.specs.Recipe.{AreRecipeWords};
 use crate::nodes::{is_newer_than, was_cut};
 use crate::words::{RecipeWords, order_only_words};
 use byte_strings::ByteStrings;
-use mk_graph::Names;
+use mk_names::Names;
 use mk_nodes::Graph;
 use mk_rule_lines::{RuleLine, names_in};
 use mk_seen::{made_of, marks_of, name_of};

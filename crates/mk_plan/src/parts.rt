@@ -1,7 +1,7 @@
 //! The rule lines whose recipes make a node: one, or all of its lines with `::`.
 ghost use Rattle.std.specs.Prelude.{◌≡◌, ℕ, List, ◌∷◌, [], map, option_map, IfOk};
 ghost use Rattle.std.specs.Option.{option_copied};
-ghost use Rattle.mk_graph.specs.Numbering.{name_at};
+ghost use Rattle.mk_names.specs.Names.{name_at};
 ghost use Rattle.mk_makefile.specs.Doubles.{double_lines};
 ghost use Rattle.mk_rule_lines.specs.Explicit.{numbers_of};
 ghost use Rattle.mk_makefile.specs.Table.{named_at};

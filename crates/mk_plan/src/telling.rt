@@ -1,7 +1,7 @@
 //! What is told of a target that is passed: why it is made, in lines of their own.
 ghost use Rattle.std.specs.Prelude.{◌≡◌, ◌++◌, ◌∷◌, [], IfOk, OnOk, option_copied};
 ghost use Rattle.std.specs.List.{flat_map};
-ghost use Rattle.mk_graph.specs.Numbering.{name_at};
+ghost use Rattle.mk_names.specs.Names.{name_at};
 ghost use Rattle.mk_recipe.specs.Tests.{recorded_texts};
 ghost use Rattle.mk_plan.specs.Passing.{told_in};
 ghost use Rattle.mk_plan.specs.Passage.{commands_of, to_make, finished};

@@ -1,14 +1,14 @@
 //! Why a recipe is to be run, by the verdict on its target.
 ghost use Rattle.std.specs.Prelude.{◌≡◌, ◌<◌, length, map, IfOk, OnOk};
 ghost use Rattle.std.specs.Option.{option_copied};
-ghost use Rattle.mk_graph.specs.Numbering.{all_added, name_at};
+ghost use Rattle.mk_names.specs.Names.{all_added, name_at};
 ghost use Rattle.mk_nodes.specs.Prerequisites.{hidden_in};
 ghost use Rattle.mk_verdict.specs.Told.{words_for};
 ghost use Rattle.mk_seen.specs.Nodes.{entry_of};
 ghost use Rattle.mk_plan.specs.Why.{IsJudgedSo, gone_number, gone_words, is_none_left, judged_names, words_of};
 
 use byte_strings::ByteString;
-use mk_graph::Names;
+use mk_names::Names;
 use mk_nodes::Graph;
 use mk_seen::{entry_of, name_of};
 use mk_verdict::{Look, Mark, Prerequisite, Reason, Target, Told, Verdict, judge};

@@ -1,6 +1,6 @@
 //! The words of `$^`, `$+` and `$|`, which the wide profile has.
 ghost use Rattle.std.specs.Prelude.{◌≡◌, ℕ, ◌<◌, false, List, ◌++◌, length, map, option_map, is_some, IfOk, IfSome};
-ghost use Rattle.mk_graph.specs.Numbering.{name_at};
+ghost use Rattle.mk_names.specs.Names.{name_at};
 ghost use Rattle.mk_macros.specs.Dynamic.{words_in};
 ghost use Rattle.mk_profile.specs.Profile.{is_wide};
 ghost use Rattle.mk_rule_lines.specs.Explicit.{numbers_of, explicit_of};

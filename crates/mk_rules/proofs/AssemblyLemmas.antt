@@ -6,7 +6,8 @@ use Rattle.st_state.specs.State.{StateMap}
 use Rattle.mk_graph.specs.Counted.{counting, IsDropped}
 use Rattle.mk_graph.specs.Cycle.{HasCycle}
 use Rattle.mk_graph.specs.Edges.{row, is_closed}
-use Rattle.mk_graph.specs.Numbering.{IsNumbering, name_at, has_name}
+use Rattle.mk_names.specs.Names.{name_at, has_name}
+use Rattle.mk_graph.specs.Numbering.{IsNumbering}
 use Rattle.mk_graph.specs.Plan.{IsPlan}
 use Rattle.mk_graph.specs.declared.numbering.Numbered.{Numbered}
 use Rattle.mk_rules.specs.Assembly.{IsPutTogether}

@@ -3,8 +3,8 @@ use Rattle.std.proofs.Common.{◌≡◌, ℕ, ◌<◌, true≢false, List, [], l
 use Rattle.std.proofs.lemmas.Map.Keys.{apart_from_distinct}
 use Rattle.std.specs.List.{IsDistinct}
 use Rattle.std.specs.Str.{bytes_eq}
-use Rattle.mk_graph.specs.Numbering.{name_at}
-use Rattle.mk_graph.proofs.NameLemmas.{bytes_same}
+use Rattle.mk_names.specs.Names.{name_at}
+use Rattle.mk_names.proofs.NameLemmas.{bytes_same}
 use Rattle.mk_nodes.specs.Node.{EachHasOneNumber}
 
 -- an earlier name is another

@@ -4,8 +4,8 @@ use Rattle.std.specs.Prelude.{slice_get}
 use Rattle.std.specs.List.{flat_map}
 use Rattle.std.specs.Option.{option_map_or}
 use Rattle.mk_profile.specs.declared.profile.Profile.{Profile}
-use Rattle.mk_graph.specs.Numbering.{all_added}
-use Rattle.mk_graph.proofs.NameLemmas.{all_added-append}
+use Rattle.mk_names.specs.Names.{all_added}
+use Rattle.mk_names.proofs.NameLemmas.{all_added-append}
 use Rattle.mk_rule_lines.specs.Explicit.{is_bar, is_wait, before_bar, without_waits, names_in}
 use Rattle.mk_rule_lines.specs.declared.rule_line.RuleLine.{RuleLine}
 use Rattle.mk_rule_lines.proofs.ExplicitLemmas.{names_at}

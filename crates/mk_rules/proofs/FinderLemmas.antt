@@ -1,8 +1,8 @@
 -- What is looked up of a name, put together.
 use Rattle.std.proofs.Common.{◌≡◌, ℕ, List, ◌++◌, length, filter, map, drop, inl, inr, Option, sym, ap, ◌∙◌}
 use Rattle.std.specs.Prelude.{Result, Ok, Err, IfOk, OnOk, option_map, unwrap_or}
-use Rattle.mk_graph.specs.Numbering.{all_added}
-use Rattle.mk_graph.proofs.NameLemmas.{all_added-append}
+use Rattle.mk_names.specs.Names.{all_added}
+use Rattle.mk_names.proofs.NameLemmas.{all_added-append}
 use Rattle.st_records.specs.declared.record.Entry.{Entry}
 use Rattle.mk_rule_lines.specs.Explicit.{explicit_of}
 use Rattle.mk_rule_lines.specs.declared.rule_line.RuleLine.{RuleLine}

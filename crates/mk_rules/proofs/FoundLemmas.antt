@@ -2,7 +2,8 @@
 use Rattle.std.proofs.Common.{◌≡◌, ℕ, ◌<◌, ◌≤◌, Bool, true, false, not, List, [], length, inl, inr, Option, Some, sym, ap, subst, ◌∙◌}
 use Rattle.std.specs.Prelude.{take, slice_get}
 use Rattle.std.specs.List.{list_all}
-use Rattle.mk_graph.specs.Numbering.{IsNumbering, AreDescribed, has_name}
+use Rattle.mk_names.specs.Names.{has_name}
+use Rattle.mk_graph.specs.Numbering.{IsNumbering, AreDescribed}
 use Rattle.mk_graph.specs.NumberingFault.{IsNumberingFault}
 use Rattle.mk_graph.specs.declared.numbering.NumberingFault.{NumberingFault}
 use Rattle.mk_graph.specs.declared.numbering.NumberingFault.TheVariants.{TooMany, Source}

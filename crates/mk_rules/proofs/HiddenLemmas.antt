@@ -4,7 +4,7 @@ use Rattle.std.specs.Prelude.{◌||◌, ◌&&◌, bytes_eq}
 use Rattle.std.specs.Str.{is_utf8}
 use Rattle.std.proofs.lemmas.List.{drop-append-le, drop_all, map-append}
 use Rattle.std.proofs.lemmas.List.Folds.{list_any-append}
-use Rattle.mk_graph.specs.Numbering.{has_name, added, all_added}
+use Rattle.mk_names.specs.Names.{has_name, added, all_added}
 use Rattle.mk_rule_lines.specs.Rules.{has}
 use Rattle.mk_sources.specs.Looks.{IsLookFault}
 use Rattle.mk_nodes.specs.Hidden.{Takes, HasHidden, IsNamesFault}

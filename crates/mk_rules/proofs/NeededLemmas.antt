@@ -2,7 +2,8 @@
 use Rattle.std.proofs.Common.{◌≡◌, ◌∙◌, ℕ, ◌<◌, nat_eq, eqb-true, true≢false, Bool, true, false, List, [], ◌∷◌, length, map, Option, Some, None, refl, sym, ap, subst}
 use Rattle.std.specs.Prelude.{◌||◌, IfSome}
 use Rattle.mk_graph.specs.Edges.{row, has as has_number}
-use Rattle.mk_graph.specs.Numbering.{AreDescribed, name_at, has_name}
+use Rattle.mk_names.specs.Names.{name_at, has_name}
+use Rattle.mk_graph.specs.Numbering.{AreDescribed}
 use Rattle.mk_rule_lines.specs.Rules.{has}
 use Rattle.mk_rules.specs.Faults.{IsNeededBy}
 use Rattle.mk_rules.specs.Found.{HasItInItsRow}

@@ -6,8 +6,8 @@ use Rattle.std.specs.Str.{bytes_eq}
 use Rattle.std.proofs.lemmas.List.{length-map, map-append}
 use Rattle.std.proofs.lemmas.List.Folds.{list_all-append}
 use Rattle.mk_graph.specs.Edges.{has}
-use Rattle.mk_graph.specs.Numbering.{name_at, has_name, added, all_added}
-use Rattle.mk_graph.proofs.NameLemmas.{Begins, begins_added, length_from_begins, below_from_begins, row_from_begins, name_at-begins, all_added-append, has_name_at, distinct_all_added}
+use Rattle.mk_names.specs.Names.{name_at, has_name, added, all_added}
+use Rattle.mk_names.proofs.NameLemmas.{Begins, begins_added, length_from_begins, below_from_begins, row_from_begins, name_at-begins, all_added-append, has_name_at, distinct_all_added}
 use Rattle.mk_graph.proofs.RowLemmas.{list_all-has}
 use Rattle.mk_rules.specs.NodeNotes.{AreKnownNodes}
 use Rattle.mk_rules.specs.Row.{named, IsRow, IsSomeRow}

@@ -1,6 +1,6 @@
 -- What becomes of what is found of a name once its prerequisites have numbers.
 use Rattle.std.specs.Prelude.{◌≡◌, ℕ, Bool, List, length, filter, map, drop}
-use Rattle.mk_graph.specs.Numbering.{all_added}
+use Rattle.mk_names.specs.Names.{all_added}
 use Rattle.mk_nodes.specs.Prerequisites.{distinct}
 use Rattle.mk_nodes.specs.Node.{hidden_marks}
 use Rattle.mk_nodes.specs.Rare.{with_marks}

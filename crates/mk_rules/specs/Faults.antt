@@ -2,7 +2,8 @@
 use Rattle.std.specs.Prelude.{◌≡◌, ℕ, ◌<◌, ◌≤◌, ◌⊎◌, Bool, true, false, List, [], ◌∷◌, ◌++◌, length, map, take, slice_get, Option, Some, None, IfSome}
 use Rattle.std.specs.List.{list_all}
 use Rattle.mk_graph.specs.Cycle.{IsCycle}
-use Rattle.mk_graph.specs.Numbering.{IsNumbering, name_at, has_name}
+use Rattle.mk_names.specs.Names.{name_at, has_name}
+use Rattle.mk_graph.specs.Numbering.{IsNumbering}
 use Rattle.mk_reader.specs.declared.item.Item.{Item}
 use Rattle.st_records.specs.declared.record.Entry.{Entry}
 use Rattle.mk_makefile.specs.Doubles.{HasBothKinds}

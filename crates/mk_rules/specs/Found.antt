@@ -1,7 +1,8 @@
 -- What is found of all names that goals lead to.
 use Rattle.std.specs.Prelude.{◌≡◌, ℕ, ◌<◌, true, false, List, length, map, IfSome}
 use Rattle.mk_graph.specs.Edges.{row, has as has_number}
-use Rattle.mk_graph.specs.Numbering.{IsNumbering, AreDescribed, name_at, has_name}
+use Rattle.mk_names.specs.Names.{name_at, has_name}
+use Rattle.mk_graph.specs.Numbering.{IsNumbering, AreDescribed}
 use Rattle.mk_graph.specs.declared.numbering.Numbered.{Numbered}
 use Rattle.mk_rules.specs.Faults.{IsAskedOf, HasUnmade, HasNamedCycle}
 use Rattle.mk_edges.specs.Known.{IsKnown}

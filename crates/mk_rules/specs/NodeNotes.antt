@@ -1,6 +1,6 @@
 -- What is noted of names by their numbers.
 use Rattle.std.specs.Prelude.{◌≡◌, ℕ, ◌<◌, Bool, true, false, List, length, slice_index_or}
-use Rattle.mk_graph.specs.Numbering.{name_at}
+use Rattle.mk_names.specs.Names.{name_at}
 
 -- the number is marked
 abbrev pub is_marked : (marks : List Bool) (number : ℕ) → Bool

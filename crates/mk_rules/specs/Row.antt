@@ -2,7 +2,7 @@
 use Rattle.std.specs.Prelude.{◌≡◌, ℕ, true, List, length, map, nat_lt}
 use Rattle.std.specs.List.{list_all, IsDistinct}
 use Rattle.std.specs.Str.{bytes_eq}
-use Rattle.mk_graph.specs.Numbering.{name_at, all_added}
+use Rattle.mk_names.specs.Names.{name_at, all_added}
 
 -- the names with these numbers
 abbrev pub named : (names : List (List ℕ)) (numbers : List ℕ) → List (List ℕ)

@@ -1,6 +1,6 @@
 //! Prerequisites by name, given their numbers straight from the words of the lines.
 ghost use Rattle.std.specs.Prelude.{◌≡◌, ℕ, Bool, List, OnOk};
-ghost use Rattle.mk_graph.specs.Numbering.{all_added};
+ghost use Rattle.mk_names.specs.Names.{all_added};
 ghost use Rattle.mk_rule_lines.specs.Explicit.{names_in, numbers_of, explicit_of};
 ghost use Rattle.mk_rules.specs.NodeNotes.{AreKnownNodes};
 ghost use Rattle.mk_rules.specs.Row.{named, IsRow, IsSomeRow};
@@ -8,7 +8,7 @@ ghost use Rattle.mk_rules.specs.Row.{named, IsRow, IsSomeRow};
 use crate::distinct_numbers::DistinctNumbers;
 use crate::followers::Followers;
 use crate::mentioned::mention_name;
-use mk_graph::Names;
+use mk_names::Names;
 use mk_rule_lines::{RuleLine, is_bar, is_wait};
 use std::alloc::{AllocError, Global};
 

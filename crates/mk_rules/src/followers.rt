@@ -3,9 +3,9 @@
 //! crate between would speak of numbers.
 ghost use Rattle.std.specs.Prelude.{◌≡◌, ◌<◌, length, IfOk, IfSome};
 ghost use Rattle.std.specs.Str.{bytes_eq};
-ghost use Rattle.mk_graph.specs.Numbering.{name_at, added};
+ghost use Rattle.mk_names.specs.Names.{name_at, added};
 
-use mk_graph::{Names, with_room};
+use mk_names::{Names, with_room};
 use name_keys::NameRef;
 use std::alloc::{AllocError, Global};
 

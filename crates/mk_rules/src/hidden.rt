@@ -1,7 +1,7 @@
 //! The hidden prerequisites of a name, taken in behind the hard ones.
 ghost use Rattle.std.specs.Prelude.{◌≡◌, ◌<◌, ℕ, List, Option, [], true, length, is_some, IfOk, IfErr, OnOk, MatchOption};
 ghost use Rattle.std.specs.FinMap as map;
-ghost use Rattle.mk_graph.specs.Numbering.{name_at, added};
+ghost use Rattle.mk_names.specs.Names.{name_at, added};
 ghost use Rattle.mk_rule_lines.specs.Rules.{has};
 ghost use Rattle.mk_nodes.specs.Prerequisites.{inputs_of, is_node, hidden_in};
 ghost use Rattle.mk_sources.specs.Looks.{Looks};
@@ -13,7 +13,7 @@ ghost use Rattle.mk_nodes.specs.declared.file_look.FileLook.{FileLook};
 use crate::mentioned::Mentioned;
 use crate::node_notes::NodeNotes;
 use byte_strings::Iter;
-use mk_graph::Names;
+use mk_names::Names;
 use mk_rule_lines::RuleFault;
 use mk_sources::{Rules, Tree, is_node};
 use std::alloc::Global;

@@ -1,7 +1,7 @@
 //! The prerequisites of a name, each once.
 ghost use Rattle.std.specs.Prelude.{◌≡◌, ◌++◌, ◌∷◌, ◌||◌, ◌<◌, ℕ, Bool, List, [], length, take, not, is_some, slice_get, option_to_list, true, false, IfOk, OnOk, MatchOption, if◌then◌else◌};
 ghost use Rattle.mk_graph.specs.Edges.{has};
-ghost use Rattle.mk_graph.specs.Numbering.{name_at, has_name, added, all_added};
+ghost use Rattle.mk_names.specs.Names.{name_at, has_name, added, all_added};
 ghost use Rattle.mk_rules.specs.NodeNotes.{AreKnownNodes};
 ghost use Rattle.mk_rules.specs.Row.{named, IsRow, IsSomeRow};
 ghost use Rattle.mk_nodes.specs.Hidden.{Takes};
@@ -10,7 +10,7 @@ use crate::distinct_numbers::DistinctNumbers;
 use crate::followers::Followers;
 use crate::hidden_marks::HiddenMarks;
 use byte_strings::ByteStrings;
-use mk_graph::Names;
+use mk_names::Names;
 use mk_sources::DistinctNames;
 use std::alloc::{AllocError, Global};
 

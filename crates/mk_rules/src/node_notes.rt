@@ -1,12 +1,12 @@
 //! What is noted of names while they are numbered, so that a hidden prerequisite is looked for once.
 ghost use Rattle.std.specs.Prelude.{◌≡◌, ◌<◌, ◌⊎◌, ℕ, Bool, List, [], true, length, IfOk, IfSome, OnOk};
-ghost use Rattle.mk_graph.specs.Numbering.{name_at, added};
+ghost use Rattle.mk_names.specs.Names.{name_at, added};
 ghost use Rattle.mk_rules.specs.NodeNotes.{is_marked, AreKnownNodes};
 
 use crate::distinct_numbers::DistinctNumbers;
 use crate::followers::Followers;
 use crate::marks::{is_marked, make_room};
-use mk_graph::{Names, with_room};
+use mk_names::{Names, with_room};
 use std::alloc::{AllocError, Global};
 use std::mem;
 

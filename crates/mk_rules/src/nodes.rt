@@ -1,7 +1,8 @@
 //! What is kept of numbered names once their rows are parted.
 ghost use Rattle.mk_rules.specs.Nodes.{IsNamedOf};
 
-use mk_graph::{Names, Numbered};
+use mk_graph::Numbered;
+use mk_names::Names;
 use mk_nodes::Node;
 
 /// The names of a graph, the numbers of the goals, the node of each name, and the numbers of those that nothing makes.

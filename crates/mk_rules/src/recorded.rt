@@ -14,10 +14,10 @@ use crate::hidden_marks::HiddenMarks;
 use crate::mentioned::Mentioned;
 use crate::node_notes::NodeNotes;
 use byte_strings::Iter;
-use mk_graph::Names;
+use mk_names::Names;
 use mk_rule_lines::RuleFault;
 use mk_sources::{Rules, Tree};
-use st_records::PackedEntry;
+use st_packed::PackedEntry;
 use std::alloc::Global;
 
 /// What the state has of the name.

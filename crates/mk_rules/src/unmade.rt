@@ -1,7 +1,8 @@
 //! Names that have no file, and that nothing makes.
 ghost use Rattle.std.specs.Prelude.{◌≡◌, ◌<◌, ◌||◌, ℕ, List, length, codes, false, is_some, [], option_to_list, IfOk, IfErr, IfSome};
 ghost use Rattle.mk_graph.specs.Edges.{has};
-ghost use Rattle.mk_graph.specs.Numbering.{AreDescribed, name_at};
+ghost use Rattle.mk_names.specs.Names.{name_at};
+ghost use Rattle.mk_graph.specs.Numbering.{AreDescribed};
 ghost use Rattle.mk_rule_lines.specs.Explicit.{explicit_targets};
 ghost use Rattle.mk_rule_lines.specs.Rules.{recipe_places};
 ghost use Rattle.mk_makefile.specs.Table.{is_named, named_at};

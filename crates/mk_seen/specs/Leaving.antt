@@ -4,7 +4,7 @@ use Rattle.std.specs.List.{list_all}
 use Rattle.std.specs.Option.{option_map_or}
 use Rattle.std.specs.Str.{is_utf8}
 use Rattle.mk_graph.specs.Edges.{row}
-use Rattle.mk_graph.specs.Numbering.{name_at}
+use Rattle.mk_names.specs.Names.{name_at}
 use Rattle.mk_nodes.specs.declared.graph.Graph.{Graph}
 use Rattle.mk_verdict.specs.Marks.{mark_of}
 use Rattle.mk_verdict.specs.Tests.{is_later, mark_differs, is_timed}

@@ -3,7 +3,7 @@ use Rattle.std.specs.Prelude.{ℕ, ℤ, Bool, false, List, [], map, slice_get, s
 use Rattle.std.specs.FinMap as finmap
 use Rattle.std.specs.Option.{option_map_or}
 use Rattle.mk_graph.specs.Edges.{row}
-use Rattle.mk_graph.specs.Numbering.{name_at}
+use Rattle.mk_names.specs.Names.{name_at}
 use Rattle.mk_nodes.specs.Look.{time_of}
 use Rattle.mk_nodes.specs.Node.{source_in, explicit_in, hidden_in}
 use Rattle.mk_nodes.specs.declared.graph.Node.{Node}

@@ -15,7 +15,8 @@ use crate::text_names::is_text_name;
 use mk_marks::{Kept, Noted};
 use mk_nodes::{FileLook, Graph};
 use mk_verdict::{Look, Mark};
-use st_records::{PackedEntry, Phase};
+use st_packed::PackedEntry;
+use st_records::Phase;
 
 /// The mark where state is kept, else none.
 fn counted(keeping: bool, mark: Mark) -> Mark

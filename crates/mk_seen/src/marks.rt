@@ -11,7 +11,8 @@ use crate::nodes::{entry_of, name_of};
 use mk_marks::{Kept, Noted, note_of};
 use mk_nodes::{FileLook, Graph, Node};
 use mk_verdict::Mark;
-use st_records::{Named, PackedEntry};
+use st_packed::PackedEntry;
+use st_records::Named;
 
 /// The name of the source of a node, if an implicit rule gives it one.
 fn source_name(graph: &Graph, node: usize) -> Option<&[u8]>

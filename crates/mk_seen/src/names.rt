@@ -1,6 +1,6 @@
 //! Names of nodes, against names that are recorded.
 ghost use Rattle.std.specs.Prelude.{◌≡◌, map};
-ghost use Rattle.mk_graph.specs.Numbering.{name_at};
+ghost use Rattle.mk_names.specs.Names.{name_at};
 ghost use Rattle.mk_seen.specs.Names.{are_known, are_same, come_first};
 
 use crate::nodes::name_of;

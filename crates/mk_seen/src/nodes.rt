@@ -1,13 +1,13 @@
 //! What a graph has under a number. Past the end there is nothing, so that no number is out of range.
 ghost use Rattle.std.specs.Prelude.{◌≡◌, ◌<◌, length, IfOk};
 ghost use Rattle.std.specs.Option.{option_copied};
-ghost use Rattle.mk_graph.specs.Numbering.{name_at};
+ghost use Rattle.mk_names.specs.Names.{name_at};
 ghost use Rattle.mk_verdict.specs.Tests.{is_later};
 ghost use Rattle.mk_seen.specs.Nodes.{node_at, stamp_of, made_of, made_beside, entry_of, stem_of, source_of, explicit_of, is_marked};
 
 use byte_strings::ByteStrings;
 use mk_nodes::Graph;
-use st_records::PackedEntry;
+use st_packed::PackedEntry;
 use std::alloc::{AllocError, Global};
 
 pub fn name_of(graph: &Graph, node: usize) -> &[u8]

@@ -10,7 +10,7 @@ use crate::nodes::{entry_of, is_marked, name_of, stamp_of};
 use mk_marks::{Kept, Noted};
 use mk_nodes::{FileLook, Graph};
 use mk_verdict::{Look, MadeFile, Mark, Prerequisite};
-use st_records::PackedEntry;
+use st_packed::PackedEntry;
 use std::alloc::{AllocError, Global};
 
 /// The files of a node: what its recipe makes and what it is made from.

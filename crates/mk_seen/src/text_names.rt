@@ -4,8 +4,8 @@ ghost use Rattle.std.specs.List.{list_all};
 ghost use Rattle.std.specs.Str.{is_utf8};
 ghost use Rattle.mk_seen.specs.TextNames.{HasTextNames};
 
-use mk_graph::Names;
 use mk_lines::is_utf8;
+use mk_names::Names;
 use mk_nodes::Graph;
 
 /// Whether a name is UTF-8. Most have ASCII alone, which is found sooner.

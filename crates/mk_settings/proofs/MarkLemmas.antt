@@ -4,7 +4,7 @@ use Rattle.std.specs.List.{list_any, flat_map}
 use Rattle.std.proofs.Common.{◌≡◌, ◌∙◌, ℕ, Bool, true, false, cond, ◌&&◌, ◌||◌, List, [], ◌∷◌, ◌++◌, filter, Option, Some, None, refl, sym, ap, subst, bytes_eq}
 use Rattle.std.proofs.lemmas.Bool.Decides.{Decides-and, Decides-or}
 use Rattle.std.proofs.lemmas.List.Folds.{list_any-append}
-use Rattle.mk_graph.specs.Numbering.{has_name, all_added}
+use Rattle.mk_names.specs.Names.{has_name, all_added}
 use Rattle.mk_lines.specs.Text.{is_empty}
 use Rattle.mk_reader.specs.declared.special.SpecialName.{SpecialName}
 use Rattle.mk_reader.specs.declared.special.SpecialName.TheVariants as special
@@ -14,7 +14,7 @@ use Rattle.mk_settings.specs.declared.marked.Mark.{Mark}
 use Rattle.mk_settings.specs.declared.marked.Mark.TheVariants as mark
 use Rattle.mk_rule_lines.specs.declared.rule_line.RuleLine.{RuleLine}
 use Rattle.mk_settings.proofs.FitLemmas.{fits_decides, any_filter}
-use Rattle.mk_rule_lines.proofs.AddedLemmas.{or_none, or_both, has_all_added}
+use Rattle.mk_names.proofs.NameLemmas.{or_none, or_both, has_all_added}
 use Rattle.mk_rule_lines.proofs.KindLemmas.{any_decides, empty_decides, has_decides}
 
 -- ---- lines

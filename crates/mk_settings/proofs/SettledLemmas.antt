@@ -2,8 +2,8 @@
 use Rattle.std.specs.List.{list_any, flat_map}
 use Rattle.std.specs.Prelude.{is_none, is_some, if◌then◌else◌}
 use Rattle.std.proofs.Common.{◌≡◌, ◌∙◌, ℕ, Bool, true, false, ◌||◌, List, [], ◌∷◌, ◌++◌, append_assoc, append-nil, Option, Some, None, refl, sym, ap}
-use Rattle.mk_graph.specs.Numbering.{all_added}
-use Rattle.mk_graph.proofs.NameLemmas.{all_added-append}
+use Rattle.mk_names.specs.Names.{all_added}
+use Rattle.mk_names.proofs.NameLemmas.{all_added-append, or_none, or_both}
 use Rattle.mk_reader.specs.declared.special.SpecialName.{SpecialName}
 use Rattle.mk_settings.specs.Goals.{is_no_parallel, is_delete_on_error, is_depfile, depfile_patterns, settings_of}
 use Rattle.mk_rule_lines.specs.Rules.{has_special}
@@ -16,7 +16,6 @@ use Rattle.mk_settings.specs.declared.marked.Mark.TheVariants.{Ignored, Silent, 
 use Rattle.mk_settings.specs.declared.marked.Marked.{Marked}
 use Rattle.mk_rule_lines.specs.declared.rule_line.RuleLine.{RuleLine}
 use Rattle.mk_settings.specs.declared.settings.Settings.{Settings}
-use Rattle.mk_rule_lines.proofs.AddedLemmas.{or_none, or_both}
 
 -- the targets of a mark with those of these lines
 abbrev marked_behind : Mark → Marked → List RuleLine → Marked

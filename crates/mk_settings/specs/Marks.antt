@@ -5,7 +5,7 @@ use Rattle.std.specs.Option.{option_map_or}
 use Rattle.mk_macros.specs.Words.{file_of, without_front, without_end}
 use Rattle.mk_profile.specs.Profile.{is_wide}
 use Rattle.mk_profile.specs.declared.profile.Profile.{Profile}
-use Rattle.mk_graph.specs.Numbering.{has_name, all_added}
+use Rattle.mk_names.specs.Names.{has_name, all_added}
 use Rattle.mk_lines.specs.Text.{is_empty}
 use Rattle.mk_reader.specs.declared.special.SpecialName.{SpecialName}
 use Rattle.mk_reader.specs.declared.special.SpecialName.TheVariants as special

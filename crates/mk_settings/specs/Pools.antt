@@ -2,7 +2,7 @@
 use Rattle.std.specs.Prelude.{◌≡◌, ℕ, ◌-◌, Bool, true, List, [], ◌∷◌, ◌++◌, length, map, sum, slice_get, Some, min, if◌then◌else◌}
 use Rattle.std.specs.List.{flat_map}
 use Rattle.std.specs.Option.{option_map_or}
-use Rattle.mk_graph.specs.Numbering.{has_name, all_added}
+use Rattle.mk_names.specs.Names.{has_name, all_added}
 use Rattle.mk_rule_lines.specs.Pools.{is_pool, most_said, members_in}
 use Rattle.mk_rule_lines.specs.declared.rule_line.RuleLine.{RuleLine}
 use Rattle.mk_settings.specs.declared.pools.Pool.{Pool}

@@ -1,6 +1,6 @@
 -- What special rules set, taken in one line after the other.
 use Rattle.std.specs.Prelude.{ℕ, List, [], false, ◌||◌, ◌++◌, Option, Some, None, if◌then◌else◌}
-use Rattle.mk_graph.specs.Numbering.{all_added}
+use Rattle.mk_names.specs.Names.{all_added}
 use Rattle.mk_settings.specs.Goals.{is_no_parallel, is_delete_on_error, is_depfile}
 use Rattle.mk_settings.specs.Pools.{pools_with}
 use Rattle.mk_settings.specs.Marks.{speaks_of_all, names_in, patterns_in}

@@ -1,13 +1,13 @@
 //! The targets that lines of a special name speak of.
 ghost use Rattle.std.specs.Prelude.{◌≡◌, ◌++◌, filter, OnOk};
 ghost use Rattle.std.specs.List.{list_any};
-ghost use Rattle.mk_graph.specs.Numbering.{all_added};
+ghost use Rattle.mk_names.specs.Names.{all_added};
 ghost use Rattle.mk_settings.specs.Marks.{is_of, takes_patterns, left_aside, held_against, is_of_pattern, has_mark};
 ghost use Rattle.mk_rule_lines.specs.Rules.{has_percent};
 ghost use Rattle.mk_settings.specs.Settled.{nothing_marked, marked_with};
 
 use byte_strings::ByteStrings;
-use mk_graph::Names;
+use mk_names::Names;
 use mk_profile::Profile;
 use mk_reader::SpecialName;
 use mk_rule_lines::{RuleLine, before_percent, behind_percent, has_percent, has_slash, parted};

@@ -3,7 +3,7 @@ ghost use Rattle.std.specs.Prelude.{◌≡◌, ◌-◌, [], Some, None, false, m
 ghost use Rattle.std.specs.List.{list_any};
 ghost use Rattle.mk_settings.specs.Pools.{most_of, pool_by, pools_with, is_member, HasShare, waiting_in, waiting_for};
 
-use mk_graph::Names;
+use mk_names::Names;
 use mk_rule_lines::{LineWords, RuleLine, add_members, is_pool, most_said};
 use std::alloc::{AllocError, Global};
 use std::marker::Model;

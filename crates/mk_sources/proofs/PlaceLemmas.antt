@@ -2,8 +2,8 @@
 use Rattle.std.proofs.Common.{◌≡◌, ◌∙◌, ℕ, zero, suc, ◌+◌, List, [], ◌∷◌, ◌++◌, take, drop, refl, sym, ap, arith}
 use Rattle.std.specs.Prelude.{slice_get, option_to_list}
 use Rattle.std.proofs.lemmas.List.{append_assoc}
-use Rattle.mk_graph.specs.Numbering.{all_added}
-use Rattle.mk_graph.proofs.NameLemmas.{all_added-append}
+use Rattle.mk_names.specs.Names.{all_added}
+use Rattle.mk_names.proofs.NameLemmas.{all_added-append}
 
 pub take-next : (names : List (List ℕ)) (n : ℕ) → take n names ++ option_to_list (slice_get names n) ≡ take (suc n) names
 take-next [] zero = refl

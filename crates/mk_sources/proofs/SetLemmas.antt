@@ -3,8 +3,8 @@ use Rattle.std.proofs.Common.{◌≡◌, ℕ, Bool, true, false, ◌||◌, List,
 use Rattle.std.specs.Bool.{if◌then◌else◌}
 use Rattle.std.specs.Str.{bytes_eq}
 use Rattle.std.proofs.lemmas.List.Folds.{list_any-append}
-use Rattle.mk_graph.specs.Numbering.{has_name, added}
-use Rattle.mk_graph.proofs.NameLemmas.{same_bytes}
+use Rattle.mk_names.specs.Names.{has_name, added}
+use Rattle.mk_names.proofs.NameLemmas.{same_bytes}
 use Rattle.mk_sources.specs.DistinctNames.{HaveTheSame}
 
 or_false : (b : Bool) → (b || false) ≡ b

@@ -1,6 +1,6 @@
 -- Names that are looked for in two ways.
 use Rattle.std.specs.Prelude.{◌≡◌, ◌⊎◌, ℕ, List, []}
-use Rattle.mk_graph.specs.Numbering.{has_name}
+use Rattle.mk_names.specs.Names.{has_name}
 
 -- a name is in both lists or in none
 abbrev pub HaveTheSame : (names others : List (List ℕ)) → Type 0

@@ -1,10 +1,10 @@
 //! Names at their first mention, of which there are mostly few.
 ghost use Rattle.std.specs.Prelude.{◌≡◌, ◌++◌, ◌∷◌, ◌⊎◌, [], false, not, length, IfOk, OnOk, OnErr};
-ghost use Rattle.mk_graph.specs.Numbering.{has_name, added};
+ghost use Rattle.mk_names.specs.Names.{has_name, added};
 ghost use Rattle.mk_sources.specs.DistinctNames.{HaveTheSame};
 
 use byte_strings::ByteStrings;
-use mk_graph::Names;
+use mk_names::Names;
 use std::alloc::{AllocError, Global};
 use std::marker::Model;
 use std::mem;

@@ -10,7 +10,7 @@ ghost use Rattle.mk_nodes.specs.Prerequisites.{default_of, is_unfinished, run_by
 use mk_makefile::{Source, TargetTable};
 use mk_nodes::{Stamp, is_unfinished};
 use mk_rule_lines::{RuleLine, is_default_at};
-use st_records::PackedEntry;
+use st_packed::PackedEntry;
 
 /// The line of this number, where it is one of `.DEFAULT`.
 fn default_at(lines: &[RuleLine], number: usize) -> Option<usize>

@@ -1,6 +1,6 @@
 //! What a name is made from by rules, each name once.
 ghost use Rattle.std.specs.Prelude.{◌≡◌, length, take, slice_get, option_to_list, IfOk, OnOk};
-ghost use Rattle.mk_graph.specs.Numbering.{all_added};
+ghost use Rattle.mk_names.specs.Names.{all_added};
 ghost use Rattle.mk_nodes.specs.Prerequisites.{made_names, made_from, distinct};
 
 use crate::distinct_names::DistinctNames;

@@ -23,7 +23,7 @@ use byte_strings::ByteStrings;
 use mk_makefile::{Form, Source, TargetTable, first_double};
 use mk_nodes::Stamp;
 use mk_rule_lines::{RuleFault, RuleLine, explicit_of, is_phony, may_have_bar, order_only_of};
-use st_records::PackedEntry;
+use st_packed::PackedEntry;
 use st_state::State;
 use std::alloc::{AllocError, Global};
 

@@ -4,7 +4,7 @@ ghost use Rattle.std.specs.FinMap as map;
 ghost use Rattle.mk_rule_lines.specs.Explicit.{numbers_of, explicit_of, order_only_of, is_phony};
 ghost use Rattle.mk_nodes.specs.Groups.{others_in, group_with};
 ghost use Rattle.mk_nodes.specs.Prerequisites.{Inputs, inputs_of, own_recipes, seen_looks, first_or, rule_or, behind_bar_of, made_from, distinct};
-ghost use Rattle.mk_graph.specs.Numbering.{all_added};
+ghost use Rattle.mk_names.specs.Names.{all_added};
 ghost use Rattle.mk_sources.specs.Looks.{Looks, and_this};
 ghost use Rattle.mk_sources.specs.Asked.{IsLookUpFault, IsOthersFault};
 ghost use Rattle.mk_sources.specs.Seen.{IsSeen, IsGiven, IsRuled, IsRuledIn};

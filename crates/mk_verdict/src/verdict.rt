@@ -8,7 +8,8 @@ ghost use Rattle.mk_verdict.specs.Tests.{is_later, is_newer, is_changed, is_gone
 use crate::mark::{Look, MadeFile, Mark};
 use byte_strings::ByteStrings;
 use mk_lines::is_utf8;
-use st_records::{PackedEntry, Phase};
+use st_packed::PackedEntry;
+use st_records::Phase;
 
 /// A prerequisite as it is now.
 #[derive(Clone, Copy)]

@@ -8,10 +8,8 @@ use crate::shown::say_once;
 use row_files::{RowFault, Words, bytes};
 use st_disk::Which;
 use st_file::{Extent, OpenFault, read_side, side_of};
-use st_records::{
-    DecodeFault, Event, Form, PackedEntry, PackedRecord, Record, append_kept_in, decode_in,
-    room_after_kept_in,
-};
+use st_packed::{Event, PackedEntry, PackedRecord, append_kept_in, decode_in, room_after_kept_in};
+use st_records::{DecodeFault, Form, Record};
 use std::alloc::{AllocError, Global};
 
 /// What some bytes are read as.

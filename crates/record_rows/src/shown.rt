@@ -1,7 +1,8 @@
 //! States as text: each entry in byte order of the names, written as a record of `notation`, with a `;` behind it.
 use byte_strings::Iter;
 use row_files::bytes;
-use st_records::{PackedEntry, Phase};
+use st_packed::PackedEntry;
+use st_records::Phase;
 use st_state::{Listed, State};
 use std::alloc::{AllocError, Global};
 

@@ -3,7 +3,8 @@ use crate::notation::records_of;
 use crate::shown::{say_once, say_state};
 use byte_strings::ByteString;
 use row_files::{RowFault, bytes};
-use st_records::{PackedRecord, Record};
+use st_packed::PackedRecord;
+use st_records::Record;
 use st_state::{Staged, State};
 use std::alloc::{AllocError, Global};
 

@@ -12,7 +12,8 @@ ghost use Rattle.st_compaction.specs.Compacted.{one_batch_in, compacted_bytes_in
 ghost use Rattle.st_compaction.specs.Named.{records_of_names};
 
 use st_file::{CommitFault, HEADER_BYTES, MAX_BODY_BYTES, new_header_in};
-use st_records::{Form, append_kept_in};
+use st_packed::append_kept_in;
+use st_records::Form;
 use st_state::{Listed, State};
 use std::alloc::{AllocError, Global};
 

@@ -5,7 +5,7 @@ use Rattle.std.proofs.lemmas.List.{take-append-drop, length-append, length-take}
 use Rattle.std.specs.Int.{Width, w32, byte_len, to_le_bytes, from_le_bytes}
 use Rattle.st_records.specs.declared.version.Form.{Form}
 use Rattle.st_records.specs.declared.record.Record.{Record}
-use Rattle.st_records.specs.declared.decoder.DecodeFault.{DecodeFault}
+use Rattle.st_records.specs.declared.fault.DecodeFault.{DecodeFault}
 use Rattle.st_records.specs.Encoding.{encoding_in, number}
 use Rattle.st_records.specs.Limits.{IsGoodIn}
 use Rattle.st_records.specs.Reading.{good_at}

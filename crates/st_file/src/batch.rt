@@ -2,7 +2,7 @@
 
 ghost use Rattle.std.specs.Prelude.{◌≡◌, ◌≢◌, ◌↔◌, ℕ, ◌<◌, ◌≤◌, ◌^◌, List, ◌++◌, length, IsTrue, IfSome, IfNone, IfOk, OnErr, MatchBool, MatchOption};
 ghost use Rattle.st_records.specs.declared.record.Record.{Record};
-ghost use Rattle.st_records.specs.declared.decoder.DecodeFault.TheVariants as decode_faults;
+ghost use Rattle.st_records.specs.declared.fault.DecodeFault.TheVariants as decode_faults;
 ghost use Rattle.st_records.specs.Encoding.{encoding_in, number};
 ghost use Rattle.st_records.specs.Limits.{IsGoodIn};
 ghost use Rattle.st_records.specs.Faults.{HasWholeTarget};
@@ -12,7 +12,8 @@ ghost use Rattle.st_file.specs.Window.{IsEnough};
 
 use crate::layout::u32_of;
 use crate::sink::RecordSink;
-use st_records::{DecodeFault, Form, PackedRecord, decode_in};
+use st_packed::{PackedRecord, decode_in};
+use st_records::{DecodeFault, Form};
 use std::alloc::{AllocError, Global};
 
 /// The bytes that the body of a batch may have.

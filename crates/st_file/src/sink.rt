@@ -6,7 +6,8 @@ ghost use Rattle.st_records.specs.declared.record.Record.{Record};
 ghost use Rattle.st_state.specs.State.{replay};
 ghost use Rattle.st_file.specs.Sink.{AddsRecords};
 
-use st_records::{PackedRecord, Record};
+use st_packed::PackedRecord;
+use st_records::Record;
 use st_state::State;
 use std::alloc::{AllocError, Global};
 

@@ -4,7 +4,7 @@ ghost use Rattle.std.specs.Prelude.{◌≡◌, ◌++◌, [], codes, length, OnOk
 ghost use Rattle.std.specs.Io.KnownBytes.{Appends};
 ghost use Rattle.std.specs.Fmt.{decimal};
 ghost use Rattle.std.specs.List.{flat_map};
-ghost use Rattle.st_records.specs.Packed.{explicit_from};
+ghost use Rattle.st_records.specs.Parts.{explicit_from};
 ghost use Rattle.st_listing.specs.Listing.{entry_lines, phase_text, command_text, plain_lines, lines_below, line};
 ghost use Rattle.st_listing.specs.Writing.{AppendsPart, SendsOrPart};
 
@@ -12,7 +12,8 @@ use crate::marked::send_with_marks;
 use crate::output::{WriteFailed, make_room, send_both, send_line, write_text};
 use itoa::Buffer;
 use memchr::memchr;
-use st_records::{Iter, Named, PackedEntry, Phase};
+use st_packed::PackedEntry;
+use st_records::{Iter, Named, Phase};
 use st_state::Listed;
 use std::io::Write;
 

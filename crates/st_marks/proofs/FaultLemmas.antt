@@ -1,7 +1,7 @@
 -- What a fault in one step says of all.
 use Rattle.std.proofs.Common.{◌≡◌, true, false, Result, Ok, Err, refl, subst}
 use Rattle.std.specs.Prelude.{is_err, IsErr}
-use Rattle.st_records.specs.declared.decoder.DecodeFault.{DecodeFault}
+use Rattle.st_records.specs.declared.fault.DecodeFault.{DecodeFault}
 use Rattle.st_records.specs.Reading.{◌>>=◌}
 
 -- where the first of two steps meets a fault, both do

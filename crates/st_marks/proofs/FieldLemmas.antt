@@ -8,8 +8,8 @@ use Rattle.std.proofs.lemmas.List.{take_at, drop_at, take-append-drop, length-ap
 use Rattle.std.proofs.lemmas.Nat.{le_bytes_8, from_le_bytes-to_le_bytes_8}
 use borrow.Author.Gap.{read_sfits}
 use mir.ValLaws.{of_z_fits}
-use Rattle.st_records.specs.declared.decoder.DecodeFault.{DecodeFault}
-use Rattle.st_records.specs.declared.decoder.DecodeFault.TheVariants.{Short}
+use Rattle.st_records.specs.declared.fault.DecodeFault.{DecodeFault}
+use Rattle.st_records.specs.declared.fault.DecodeFault.TheVariants.{Short}
 use Rattle.st_records.specs.Encoding.{number, string, FitsString}
 use Rattle.st_records.specs.Reading.{then_at, uint_at, number_at, string_at}
 use Rattle.st_records.proofs.Fields.{IsBytes, IsBytes-take, IsBytes-drop, guard_ok, ok_is, Takes, Reads, then_reads, made_takes, made_again, number_reads, string_reads}

@@ -3,7 +3,7 @@ use Rattle.std.proofs.Common.{◌≡◌, ℕ, zero, suc, ◌-◌, ◌+◌, ◌�
 use Rattle.std.specs.Prelude.{IsErr}
 use Rattle.std.specs.List.{flat_map, AllByRecursion}
 use Rattle.std.proofs.lemmas.List.{append-nil}
-use Rattle.st_records.specs.declared.decoder.DecodeFault.{DecodeFault}
+use Rattle.st_records.specs.declared.fault.DecodeFault.{DecodeFault}
 use Rattle.st_records.specs.Reading.{◌>>=◌, Reader}
 use Rattle.st_records.proofs.Fields.{IsBytes, bind_ok, ok_is, Takes, Takes-then, Reads}
 use Rattle.st_marks.specs.Reading.{many_at}

@@ -1,7 +1,7 @@
 -- What a text says as a value, and the marks of which it says apart.
 use Rattle.std.proofs.Common.{◌≡◌, ◌∙◌, ℕ, zero, suc, ◌≤◌, List, [], ◌∷◌, take, drop, Result, Ok, Err, refl, sym, ap, arith}
 use Rattle.std.specs.Prelude.{Option, Some, None, IsErr, MatchOption, slice_get}
-use Rattle.st_records.specs.declared.decoder.DecodeFault.{DecodeFault}
+use Rattle.st_records.specs.declared.fault.DecodeFault.{DecodeFault}
 use Rattle.st_records.specs.Reading.{◌>>=◌, number_at}
 use Rattle.st_marks.specs.declared.mark.Mark.{Mark}
 use Rattle.st_marks.specs.Reading.{source_at, mark_at, many_at, mark_or_unknown, marks_in}

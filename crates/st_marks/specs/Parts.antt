@@ -1,7 +1,7 @@
 -- What a text of marks says, and the marks of a target's record apart, by what they are of.
 use Rattle.std.specs.Prelude.{ℕ, ◌+◌, ◌-◌, List, [], ◌∷◌, length, take, drop, Option, Some, None, Result, Ok, Err, nat_lt, if◌then◌else◌}
 use Rattle.std.specs.Option.{option_copied}
-use Rattle.st_records.specs.declared.decoder.DecodeFault.{DecodeFault}
+use Rattle.st_records.specs.declared.fault.DecodeFault.{DecodeFault}
 use Rattle.st_records.specs.Reading.{◌>>=◌, Reader, number_at}
 use Rattle.st_marks.specs.declared.mark.Mark.{Mark}
 use Rattle.st_marks.specs.declared.parts.Parts.{Parts}

@@ -1,8 +1,8 @@
 -- Reading from the left, as st_records reads: a value and the bytes behind it, or a fault.
 use Rattle.std.specs.Prelude.{◌≡◌, ℕ, ℤ, zero, suc, List, [], ◌∷◌, Option, Some, None, Result, Ok, Err, IsErr}
 use Rattle.std.specs.Int.{w64, cast_signed}
-use Rattle.st_records.specs.declared.decoder.DecodeFault.{DecodeFault}
-use Rattle.st_records.specs.declared.decoder.DecodeFault.TheVariants.{Short, BadKind}
+use Rattle.st_records.specs.declared.fault.DecodeFault.{DecodeFault}
+use Rattle.st_records.specs.declared.fault.DecodeFault.TheVariants.{Short, BadKind}
 use Rattle.st_records.specs.Reading.{◌>>=◌, Reader, then_at, made_at, uint_at, number_at, string_at}
 use Rattle.st_marks.specs.declared.mark.Stamp.{Stamp}
 use Rattle.st_marks.specs.declared.mark.Mark.{Mark}

@@ -4,8 +4,8 @@ use Rattle.std.proofs.lemmas.List.{take_at, drop_at, take-append-drop, length-ap
 use Rattle.st_records.specs.declared.version.Version.{Version}
 use Rattle.st_records.specs.declared.version.Form.{Form}
 use Rattle.st_records.specs.Forms.{form_of}
-use Rattle.st_records.specs.declared.decoder.DecodeFault.{DecodeFault}
-use Rattle.st_records.specs.declared.decoder.DecodeFault.TheVariants.{OutOfMemory, Short, BadKind, Check}
+use Rattle.st_records.specs.declared.fault.DecodeFault.{DecodeFault}
+use Rattle.st_records.specs.declared.fault.DecodeFault.TheVariants.{OutOfMemory, Short, BadKind, Check}
 use Rattle.st_records.specs.declared.record.Record.{Record}
 use Rattle.st_records.specs.Encoding.{encoding, encoding_in}
 use Rattle.st_records.specs.Limits.{IsGood, IsGoodIn, EncodesIn}

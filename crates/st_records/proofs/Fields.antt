@@ -5,8 +5,8 @@ use Rattle.std.specs.List.{flat_map, AllByRecursion}
 use Rattle.std.proofs.lemmas.Bool.{cases_lt, ltb-false, le-ltb}
 use Rattle.std.proofs.lemmas.List.{take_at, drop_at, take-append-drop, length-append, length-take, get_or-drop, get_or-take, get_or_past}
 use Rattle.std.proofs.lemmas.Nat.{le_bytes_4, from_le_bytes-to_le_bytes_4}
-use Rattle.st_records.specs.declared.decoder.DecodeFault.{DecodeFault}
-use Rattle.st_records.specs.declared.decoder.DecodeFault.TheVariants.{Short, BadKind}
+use Rattle.st_records.specs.declared.fault.DecodeFault.{DecodeFault}
+use Rattle.st_records.specs.declared.fault.DecodeFault.TheVariants.{Short, BadKind}
 use Rattle.st_records.specs.Encoding.{number, string, strings, FitsString, FitsStrings}
 use Rattle.st_records.specs.Reading.{◌>>=◌, Reader, then_at, made_at, tested_at, uint_at, number_at, bytes_at, string_at, items_at, strings_at}
 

@@ -2,7 +2,6 @@
 use Rattle.std.proofs.Common.{◌≡◌, ℕ, ◌^◌, ◌<◌, ◌≤◌, Bool, true, false, ◌||◌, ltb, List, [], ◌∷◌, ◌++◌, length, length-append, None, refl, arith}
 use Rattle.std.specs.List.{list_any, flat_map, AllByRecursion}
 use Rattle.std.proofs.lemmas.Bool.{ltb-false, or_parts}
-use Rattle.st_records.specs.declared.version.Version.{Version}
 use Rattle.st_records.specs.declared.version.Form.{Form}
 use Rattle.st_records.specs.declared.version.Form.TheVariants as forms
 use Rattle.st_records.specs.declared.limits.TheConstants.{MAX_COMMAND_BYTES, MAX_COMMANDS, MAX_HIDDEN_NAMES, MAX_EXPLICIT_NAMES}
@@ -13,10 +12,9 @@ use Rattle.st_records.specs.declared.record.Explicit.TheVariants.{Unknown, Known
 use Rattle.st_records.specs.declared.record.Entry.{Entry}
 use Rattle.st_records.specs.declared.record.Record.{Record}
 use Rattle.st_records.specs.declared.record.Record.TheVariants as records
-use Rattle.st_records.specs.Forms.{form_of}
 use Rattle.st_records.specs.Parts.{target_of, names_known, marks_known, commands_of, hidden_of, explicit_of, phase_status}
 use Rattle.st_records.specs.Encoding.{string, strings, marked_fields, phase_fields, done_explicit_in, kept_explicit_in, entry_fields_in, FitsString, FitsStrings, FitsPhase, FitsDoneExplicit, FitsKeptExplicit, FitsRecord}
-use Rattle.st_records.specs.Limits.{max_name_bytes_in, max_record_bytes_in, counted_length_in, SaysExplicitIn, IsGood, IsGoodIn}
+use Rattle.st_records.specs.Limits.{max_name_bytes_in, max_record_bytes_in, counted_length_in, SaysExplicitIn, IsGoodIn}
 use Rattle.st_records.specs.Tests.{any_name, is_empty_name, is_bad_name, is_long_name, has_bad_command, has_long_command, is_overlong, has_too_many}
 use Rattle.st_records.proofs.TestLemmas.{chain, none_from}
 
@@ -139,6 +137,3 @@ fits_in form (records.Failed target status) good = ((parts_fit form (records.Fai
 fits_in form (records.Kept target known) good =
     let p = parts_fit form (records.Kept target known) good in
     (p.target, (phase_fits known.phase good.status, (p.commands, (p.hidden, kept_fits form target known p good.explicit))))
-
-pub fits_from_good : (version : Version) (r : Record) → IsGood version r → FitsRecord (form_of version) r
-fits_from_good version = fits_in (form_of version)

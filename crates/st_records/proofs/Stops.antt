@@ -5,8 +5,8 @@ use Rattle.st_records.specs.declared.version.Form.{Form}
 use Rattle.st_records.specs.declared.version.Form.TheVariants as forms
 use Rattle.st_records.specs.declared.record.Explicit.{Explicit}
 use Rattle.st_records.specs.declared.record.Explicit.TheVariants.{Unknown, Known, Marked}
-use Rattle.st_records.specs.declared.decoder.DecodeFault.{DecodeFault}
-use Rattle.st_records.specs.declared.decoder.DecodeFault.TheVariants.{Short, BadKind}
+use Rattle.st_records.specs.declared.fault.DecodeFault.{DecodeFault}
+use Rattle.st_records.specs.declared.fault.DecodeFault.TheVariants.{Short, BadKind}
 use Rattle.st_records.specs.Encoding.{string, strings, FitsString, FitsStrings}
 use Rattle.st_records.specs.Reading.{◌>>=◌, Reader, then_at, made_at, tested_at, number_at, bytes_at, string_at, items_at, strings_at, status_at, no_status_at, marked_at, done_explicit_at, kept_explicit_at, lists_at}
 use Rattle.st_records.specs.Faults.{After, AfterNumber, EndsInNumber, EndsInString, EndsInItems, EndsInStrings, EndsInMarked, EndsInDoneExplicit, EndsInKeptExplicit, EndsInLists, AfterLists, HasUnlistedStatus, HasNeedlessStatus, HasUnlistedMarked, HasUnlistedKnown}

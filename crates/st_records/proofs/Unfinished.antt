@@ -3,7 +3,7 @@ use Rattle.std.proofs.Common.{◌≡◌, ℕ, ◌+◌, ◌<◌, ◌⊎◌, List,
 use Rattle.std.specs.Int.{Width, w32, byte_len, from_le_bytes}
 use Rattle.std.proofs.lemmas.Bool.{cases_lt, lt-ltb, le-ltb}
 use Rattle.std.proofs.lemmas.List.{length-drop}
-use Rattle.st_records.specs.declared.decoder.DecodeFault.TheVariants.{Short}
+use Rattle.st_records.specs.declared.fault.DecodeFault.TheVariants.{Short}
 use Rattle.st_records.specs.Reading.{uint_at, number_at, bytes_at}
 
 uint_cases : (w : Width) (bytes : List ℕ) → ((x : ℕ × List ℕ) × (uint_at w bytes ≡ Ok x) × (length x.1 + byte_len w ≡ length bytes)) ⊎ ((uint_at w bytes ≡ Err Short) × (length bytes < byte_len w))

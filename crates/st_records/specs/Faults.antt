@@ -1,7 +1,7 @@
 -- What stands at the front of bytes that begin with no good record.
 use Rattle.std.specs.Prelude.{◌≡◌, ℕ, zero, suc, ◌^◌, ◌<◌, ◌⊎◌, List, [], ◌∷◌, ◌++◌, length}
-use Rattle.st_records.specs.declared.decoder.DecodeFault.{DecodeFault}
-use Rattle.st_records.specs.declared.decoder.DecodeFault.TheVariants.{OutOfMemory, Short, BadKind, Check}
+use Rattle.st_records.specs.declared.fault.DecodeFault.{DecodeFault}
+use Rattle.st_records.specs.declared.fault.DecodeFault.TheVariants.{OutOfMemory, Short, BadKind, Check}
 use Rattle.st_records.specs.declared.version.Version.{Version}
 use Rattle.st_records.specs.declared.version.Form.{Form}
 use Rattle.st_records.specs.declared.version.Form.TheVariants as forms

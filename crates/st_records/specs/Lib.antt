@@ -9,14 +9,11 @@ pub mod Encoding
 pub mod Limits
 -- what bytes have that begin with no good record
 pub mod Faults
--- What private functions compute, said step by step; of public contracts `Gives` alone is a part:
+-- What private functions compute, and calls that st_packed alone makes, said step by step; of other contracts `Gives` alone is a
+-- part:
 -- the tests of a record, one by one
 pub mod Tests
 -- reading from the left
 pub mod Reading
 -- strings that could be names, as they are passed over
 pub mod Clean
--- lists of strings in one piece of memory
-pub mod Packed
--- a record as it is read
-pub mod Event

@@ -4,6 +4,8 @@ use Rattle.st_records.specs.declared.record.Phase.{Phase}
 use Rattle.st_records.specs.declared.record.Phase.TheVariants as phases
 use Rattle.st_records.specs.declared.record.Explicit.{Explicit}
 use Rattle.st_records.specs.declared.record.Explicit.TheVariants.{Unknown, Known, Marked}
+use Rattle.st_records.specs.declared.record.Named.{Named}
+use Rattle.st_records.specs.declared.record.Named.TheVariants as named
 use Rattle.st_records.specs.declared.record.Record.{Record}
 use Rattle.st_records.specs.declared.record.Record.TheVariants as records
 
@@ -34,6 +36,12 @@ explicit_of (records.Begun target) = Unknown
 explicit_of (records.Done target commands hidden explicit) = explicit
 explicit_of (records.Failed target status) = Unknown
 explicit_of (records.Kept target entry) = entry.explicit
+
+-- what is said of explicit names, where it is lent
+abbrev pub explicit_from : Named → Explicit
+explicit_from named.Unknown = Unknown
+explicit_from (named.Known names) = Known names
+explicit_from (named.Marked names marks) = Marked names marks.now
 
 -- explicit names as a list, empty where they are unknown
 abbrev pub names_known : Explicit → List (List ℕ)

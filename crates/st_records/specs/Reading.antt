@@ -3,8 +3,8 @@
 use Rattle.std.specs.Prelude.{◌≡◌, ℕ, zero, suc, Bool, List, [], ◌∷◌, length, take, drop, Option, Some, None, Result, Ok, Err, nat_lt, ◌==◌, if◌then◌else◌}
 use Rattle.std.specs.Int.{Width, w32, byte_len, from_le_bytes}
 use Rattle.st_records.specs.declared.limits.RecordFault.{RecordFault}
-use Rattle.st_records.specs.declared.decoder.DecodeFault.{DecodeFault}
-use Rattle.st_records.specs.declared.decoder.DecodeFault.TheVariants.{OutOfMemory, Short, BadKind, Check}
+use Rattle.st_records.specs.declared.fault.DecodeFault.{DecodeFault}
+use Rattle.st_records.specs.declared.fault.DecodeFault.TheVariants.{OutOfMemory, Short, BadKind, Check}
 use Rattle.st_records.specs.declared.record.Phase.{Phase}
 use Rattle.st_records.specs.declared.record.Phase.TheVariants as phases
 use Rattle.st_records.specs.declared.record.Entry.{Entry}

@@ -3,8 +3,7 @@
 ghost use Rattle.std.specs.Prelude.{◌≡◌, ◌+◌, ◌<◌, ◌≤◌, ◌++◌, ◌∷◌, length, take, IfOk, OnOk, OnErr, vec_len, vec_capacity};
 ghost use Rattle.st_records.specs.declared.version.Version.TheVariants as versions;
 ghost use Rattle.st_records.specs.declared.version.Form.TheVariants as forms;
-ghost use Rattle.st_records.specs.Parts.{names_known, marks_known};
-ghost use Rattle.st_records.specs.Packed.{explicit_from};
+ghost use Rattle.st_records.specs.Parts.{names_known, marks_known, explicit_from};
 ghost use Rattle.st_records.specs.Encoding.{number, string, strings, marked_fields, phase_fields, done_explicit_in, kept_explicit_in, entry_fields_in, encoding, encoding_in, FitsString, FitsStrings, FitsDoneExplicit, FitsKeptExplicit, FitsEntry, FitsRecord};
 ghost use Rattle.st_records.specs.Limits.{IsGood, IsGoodIn};
 
@@ -98,7 +97,7 @@ fn put_record(out: &mut Vec<u8>, form: Form, of: &Record) -> Result<(), AllocErr
 }
 
 /// The byte of a record's kind, and its target.
-pub(crate) fn put_front(out: &mut Vec<u8>, kind: u8, target: &[u8]) -> Result<(), AllocError>
+pub fn put_front(out: &mut Vec<u8>, kind: u8, target: &[u8]) -> Result<(), AllocError>
     requires { FitsString target.now }
     ensures ok { OnOk result (out.new.items ≡ out.old.items ++ (kind ∷ string target.now)) }
     ensures len { OnOk result (vec_len out.new ≡ vec_len out.old + 1 + length (string target.now)) }
@@ -111,7 +110,7 @@ pub(crate) fn put_front(out: &mut Vec<u8>, kind: u8, target: &[u8]) -> Result<()
 }
 
 /// What a kept record has of the entry behind its target.
-pub(crate) fn put_entry(
+pub fn put_entry(
     out: &mut Vec<u8>,
     form: Form,
     phase: Phase,

@@ -5,7 +5,7 @@ ghost use Rattle.st_records.specs.declared.version.Version.{Version};
 ghost use Rattle.st_records.specs.declared.version.Form.{Form};
 ghost use Rattle.st_records.specs.declared.version.Version.TheVariants as versions;
 ghost use Rattle.st_records.specs.declared.limits.TheConstants as limits;
-ghost use Rattle.st_records.specs.declared.decoder.DecodeFault.{DecodeFault};
+ghost use Rattle.st_records.specs.declared.fault.DecodeFault.{DecodeFault};
 ghost use Rattle.st_records.specs.declared.record.Record.{Record};
 ghost use Rattle.st_records.specs.Encoding.{encoding, encoding_in};
 ghost use Rattle.st_records.specs.Faults.{HasFault, HasFaultIn};

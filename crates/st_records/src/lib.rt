@@ -1,32 +1,28 @@
 //! The records of a state file: what they hold, their limits, and their bytes; and the key under which names are hashed.
 #![tactic(auto)]
 
-mod decoder;
 mod encoder;
+mod fault;
 mod hash_key;
-mod kept;
 mod laws;
 mod limits;
 mod measure;
-mod packed;
-mod packed_record;
 mod record;
 mod version;
 mod within;
 
 pub use byte_strings::{ByteString, ByteStrings, Iter};
-pub use decoder::{DecodeFault, decode, decode_in};
+pub use encoder::{put_entry, put_front};
+pub use fault::DecodeFault;
 pub use hash_key::HashKey;
-pub use kept::{append_kept, append_kept_in, room_after_kept, room_after_kept_in};
 pub use laws::{
     each_answered, each_answered_in, limits_in_numbers, one_encoding, one_encoding_in, one_fault,
     one_fault_in,
 };
 pub use limits::{
     MAX_COMMAND_BYTES, MAX_COMMANDS, MAX_EXPLICIT_NAMES, MAX_HIDDEN_NAMES, MAX_NAME_BYTES,
-    MAX_NAME_BYTES_IN_ONE, MAX_RECORD_BYTES, MAX_RECORD_BYTES_IN_ONE, RecordFault,
+    MAX_NAME_BYTES_IN_ONE, MAX_RECORD_BYTES, MAX_RECORD_BYTES_IN_ONE, RecordFault, room_after,
 };
-pub use packed::PackedEntry;
-pub use packed_record::{Event, PackedRecord};
 pub use record::{Entry, Explicit, Named, Phase, Record};
 pub use version::{Form, Version};
+pub use within::still_clean;

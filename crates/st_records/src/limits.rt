@@ -42,7 +42,7 @@ impl Form {
         }
     }
 
-    pub(crate) fn max_record_bytes(self) -> usize
+    pub fn max_record_bytes(self) -> usize
         ensures { result ≡ max_record_bytes_in self }
     {
         match self {
@@ -87,7 +87,7 @@ impl Record {
     }
 
     /// The first fault by the limits of a form.
-    pub(crate) fn fault(&self, form: Form) -> Option<RecordFault>
+    pub fn fault(&self, form: Form) -> Option<RecordFault>
         ensures { result ≡ fault_of form self.now }
     {
         if self.is_seen_within(form) {
@@ -249,7 +249,7 @@ fn any_longer(mut strings: Iter<'_>, limit: usize) -> bool
 }
 
 /// What is left of `room` after the items, each with the four bytes of its length; none where they do not fit.
-pub(crate) fn room_after(items: Iter<'_>, room: usize) -> Option<usize>
+pub fn room_after(items: Iter<'_>, room: usize) -> Option<usize>
     ensures { MatchOption result (room < length (flat_map string items.entry)) (λ left. left + length (flat_map string items.entry) ≡ room) }
 {
     let mut left = room;

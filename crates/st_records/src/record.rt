@@ -2,7 +2,7 @@
 
 ghost use Rattle.std.specs.Prelude.{◌≡◌, IfOk};
 ghost use Rattle.st_records.specs.declared.record.Record.TheVariants as records;
-ghost use Rattle.st_records.specs.Packed.{explicit_from};
+ghost use Rattle.st_records.specs.Parts.{explicit_from};
 ghost use Rattle.st_records.specs.Parts.{names_known, marks_known, target_of, commands_of, hidden_of, explicit_of};
 
 use byte_strings::{ByteString, ByteStrings, Iter};
@@ -58,7 +58,7 @@ impl Explicit {
         }
     }
 
-    pub(crate) fn lend(&self) -> Named<'_>
+    pub fn lend(&self) -> Named<'_>
         ensures { explicit_from result ≡ self.now }
     {
         match self {

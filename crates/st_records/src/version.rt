@@ -14,7 +14,7 @@ pub enum Version {
 
 impl Version {
     /// The form of the records in a file of this version.
-    pub(crate) fn form(self) -> Form
+    pub fn form(self) -> Form
         ensures { result ≡ form_of self }
     {
         match self {

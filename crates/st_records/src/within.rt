@@ -53,7 +53,7 @@ impl Record {
 
 /// Whether all is clean with this string: it could be a name. Nearly all commands could.
 #[tactic(auto, using(crate::proofs::Clean::clean_from))]
-pub(crate) fn still_clean(clean: bool, form: Form, string: &[u8]) -> bool
+pub fn still_clean(clean: bool, form: Form, string: &[u8]) -> bool
     ensures { IsTrue result → IsTrue clean × (is_unclean form string.now ≡ false) }
 {
     clean && is_good_name(string, form)

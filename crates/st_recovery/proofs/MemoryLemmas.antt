@@ -3,13 +3,12 @@ use Rattle.std.proofs.Common.{◌<◌, ℕ, List, [], ◌∷◌, length, ap, inl
 use Rattle.std.specs.FinMap as map
 use Rattle.std.specs.FinMap.{len-empty}
 use Rattle.st_records.specs.declared.version.Form.{Form}
-use Rattle.st_records.specs.declared.version.Form.TheVariants.{Plain}
 use Rattle.st_records.specs.declared.record.Record.{Record}
 use Rattle.st_records.specs.declared.record.Entry.{Entry}
 use Rattle.st_state.specs.State.{StateMap, replay}
 use Rattle.st_state.proofs.StateLemmas.{by_bytes}
 use Rattle.st_file.proofs.SideLemmas.{comes_of_held}
-use Rattle.st_recovery.specs.Recovers.{WinsIn, Recovers, RecoversIn, IsWholeIn, PairComesToRecords, PairComesToRecordsIn}
+use Rattle.st_recovery.specs.Recovers.{WinsIn, RecoversIn, IsWholeIn, PairComesToRecordsIn}
 
 some_held : (held : List Record) → 0 < map.len (replay map.empty held) → 0 < length held
 some_held [] some = absurd (omega (arith, some, len-empty by_bytes Entry))
@@ -32,7 +31,3 @@ comes_of_state_in newest a b m (inr (inl wins)) some =
 comes_of_state_in newest a b m (inr (inr wins)) some =
     let c = wins.counts in
     inr (other_is_whole newest b a m wins, comes_of_held newest b wins.form c.is_read wins.generation c.held wins.end c.holds (held_of newest b a m wins some))
-
--- also where versions 1 and 2 are read
-pub comes_of_state : (a b : List ℕ) (m : StateMap) → Recovers a b m → 0 < map.len m → PairComesToRecords a b
-comes_of_state = comes_of_state_in Plain

@@ -7,9 +7,9 @@ use Rattle.std.specs.Cmp.Lexicographic.{nat_list_cmp_total}
 use Rattle.name_keys.specs.Ends.{may_have}
 use Rattle.name_keys.specs.declared.ends.NameEnds.{NameEnds}
 use Rattle.st_records.specs.declared.record.Entry.{Entry}
-use Rattle.st_records.specs.Event.{record_from}
-use Rattle.st_records.specs.declared.packed_record.Event.{Event}
-use Rattle.st_records.specs.declared.packed_record.Event.TheVariants.{Begun, Done, Failed, Kept}
+use Rattle.st_packed.specs.Event.{record_from}
+use Rattle.st_packed.specs.declared.packed_record.Event.{Event}
+use Rattle.st_packed.specs.declared.packed_record.Event.TheVariants.{Begun, Done, Failed, Kept}
 use Rattle.st_state.specs.State.{StateMap, apply_record}
 use Rattle.st_state.specs.Ends.{AreEndsOf}
 use Rattle.st_state.proofs.StateLemmas.{by_bytes, same_bytes}

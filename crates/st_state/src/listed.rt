@@ -6,7 +6,7 @@ ghost use Rattle.st_state.specs.Listed.{entry_at};
 
 use crate::name_order::Ranked;
 use crate::state::Entries;
-use st_records::PackedEntry;
+use st_packed::PackedEntry;
 use std::marker::Model;
 
 /// The names of a state with their entries, in byte order of the names. Contracts see it as the list of these pairs.

@@ -8,7 +8,7 @@ ghost use Rattle.st_state.specs.State.{by_name, apply_record, known_hidden, repl
 
 use crate::state::{Entries, State};
 use crate::taking::take_in;
-use st_records::PackedRecord;
+use st_packed::PackedRecord;
 
 /// A state and a batch of records that it is about to take in.
 ///

@@ -4,12 +4,13 @@ ghost use Rattle.std.specs.Prelude.{◌≡◌, ◌+◌, ◌<◌, ◌≤◌, None
 ghost use Rattle.std.specs.FinMap as map;
 ghost use Rattle.indexmap.specs.IndexMap.{spare};
 ghost use Rattle.st_records.specs.Parts.{target_of};
-ghost use Rattle.st_records.specs.Event.{record_from};
+ghost use Rattle.st_packed.specs.Event.{record_from};
 ghost use Rattle.st_state.specs.State.{by_name, apply_record, known_hidden, unfinished};
 
 use crate::state::Entries;
 use name_keys::Name;
-use st_records::{Event, PackedEntry, PackedRecord, Phase};
+use st_packed::{Event, PackedEntry, PackedRecord};
+use st_records::Phase;
 use st_unfinished::leave_unfinished;
 use std::alloc::{AllocError, Global};
 

@@ -1,5 +1,5 @@
 use Rattle.std.proofs.Common.{◌<◌, length}
-use Rattle.mk_graph.specs.Numbering.{name_at}
+use Rattle.mk_names.specs.Names.{name_at}
 use Rattle.jb_closing.specs.Last.{EndsDone}
 use Rattle.jb_closing.proofs.ClosingLemmas.{lacks_by, done_by}
 use Rattle.jb_closing.proofs.closing.lacks_done.Goals as goal

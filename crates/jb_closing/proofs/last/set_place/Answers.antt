@@ -1,5 +1,5 @@
 use Rattle.std.proofs.Common.{◌≡◌, is_some, ap, sym, ◌∙◌}
-use Rattle.mk_graph.specs.Numbering.{has_name}
+use Rattle.mk_names.specs.Names.{has_name}
 use Rattle.st_records.specs.Parts.{target_of}
 use Rattle.jb_closing.proofs.LastLemmas.{places-set, places-same}
 use Rattle.jb_closing.proofs.last.set_place.Goals as goal

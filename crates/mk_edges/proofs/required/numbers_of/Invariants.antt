@@ -1,5 +1,5 @@
 use Rattle.std.proofs.Common.{◌≡◌, ◌++◌, map, filter, true}
-use Rattle.mk_graph.specs.Numbering.{name_at, has_name}
+use Rattle.mk_names.specs.Names.{name_at, has_name}
 use Rattle.mk_edges.proofs.WaitLemmas.{are_below}
 use Rattle.mk_edges.proofs.required.numbers_of.Given as goal
 

@@ -3,7 +3,7 @@ use Rattle.std.specs.Prelude.{slice_get}
 use Rattle.std.specs.List.{list_all}
 use Rattle.std.proofs.lemmas.Option.{slice_get_read}
 use Rattle.mk_graph.specs.Edges.{row}
-use Rattle.mk_graph.specs.Numbering.{name_at}
+use Rattle.mk_names.specs.Names.{name_at}
 use Rattle.mk_graph.proofs.CycleLemmas.{closed_row}
 use Rattle.mk_edges.specs.Required.{names_in_row, IsRequiredRow}
 use Rattle.mk_edges.specs.Rows.{EachRow}

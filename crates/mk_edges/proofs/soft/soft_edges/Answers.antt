@@ -2,7 +2,8 @@ use Rattle.std.proofs.Common.{◌≡◌, ◌<◌, ◌||◌, true, length, map, s
 use Rattle.std.proofs.lemmas.Result.{IfOk-weaker}
 use Rattle.std.specs.List.{list_any}
 use Rattle.mk_graph.specs.Edges.{row, is_closed, has as has_number}
-use Rattle.mk_graph.specs.Numbering.{AreDescribed, name_at}
+use Rattle.mk_names.specs.Names.{name_at}
+use Rattle.mk_graph.specs.Numbering.{AreDescribed}
 use Rattle.mk_nodes.specs.Graph.{AreSoft}
 use Rattle.mk_edges.specs.Known.{IsKnown}
 use Rattle.mk_nodes.specs.Prerequisites.{Inputs, soft_names, prerequisites_of}

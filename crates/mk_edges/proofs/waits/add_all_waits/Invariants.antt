@@ -1,7 +1,7 @@
 use Rattle.std.proofs.Common.{◌≡◌, ◌<◌, ◌||◌, ℕ, length, map, take, true}
 use Rattle.std.specs.List.{list_any}
 use Rattle.mk_graph.specs.Edges.{row, is_closed, has as has_number}
-use Rattle.mk_graph.specs.Numbering.{name_at}
+use Rattle.mk_names.specs.Names.{name_at}
 use Rattle.mk_graph.specs.Waits.{BeginWith}
 use Rattle.mk_nodes.specs.Waits.{line_orders}
 use Rattle.mk_edges.proofs.waits.add_all_waits.Given as goal

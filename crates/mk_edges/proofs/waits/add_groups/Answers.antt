@@ -4,7 +4,7 @@ use Rattle.std.proofs.lemmas.List.{length-map}
 use Rattle.std.proofs.lemmas.List.Folds.{list_all-map}
 use Rattle.std.proofs.lemmas.Result.{on_ok_weaker}
 use Rattle.mk_graph.specs.Edges.{row, is_closed, has as has_number}
-use Rattle.mk_graph.specs.Numbering.{name_at, has_name}
+use Rattle.mk_names.specs.Names.{name_at, has_name}
 use Rattle.mk_graph.specs.Waits.{waits}
 use Rattle.mk_nodes.specs.Waits.{orders}
 use Rattle.mk_edges.proofs.WaitLemmas.{are_below, told_waits, closed_waits, both_ok}

@@ -1,7 +1,7 @@
 use Rattle.std.proofs.Common.{map, length, nat_lt, ap, ◌∙◌}
 use Rattle.std.specs.List.{list_all}
 use Rattle.std.proofs.lemmas.Result.{on_ok_weaker}
-use Rattle.mk_graph.specs.Numbering.{name_at}
+use Rattle.mk_names.specs.Names.{name_at}
 use Rattle.mk_nodes.specs.Waits.{groups_of}
 use Rattle.mk_edges.proofs.waits.add_word_waits.Goals as goal
 

@@ -3,7 +3,7 @@ use Rattle.std.specs.Prelude.{is_some}
 use Rattle.std.proofs.lemmas.List.{map-append}
 use Rattle.std.proofs.lemmas.List.Folds.{list_all-map}
 use Rattle.std.specs.List.{list_all}
-use Rattle.mk_graph.specs.Numbering.{name_at}
+use Rattle.mk_names.specs.Names.{name_at}
 use Rattle.mk_edges.proofs.WaitLemmas.{GroupsGo, groups_start, groups_end, groups_more, groups_past, groups_done, groups_done_nodes, are_below}
 use Rattle.mk_edges.proofs.waits.number_groups.Goals as goal
 

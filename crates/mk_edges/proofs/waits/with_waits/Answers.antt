@@ -3,7 +3,7 @@ use Rattle.std.proofs.lemmas.List.{length-map}
 use Rattle.std.proofs.lemmas.Result.{IfOk-weaker}
 use Rattle.std.specs.List.{list_any}
 use Rattle.mk_graph.specs.Edges.{row, is_closed, has as has_number}
-use Rattle.mk_graph.specs.Numbering.{name_at}
+use Rattle.mk_names.specs.Names.{name_at}
 use Rattle.mk_graph.specs.Waits.{BeginWith}
 use Rattle.mk_nodes.specs.Waits.{line_orders}
 use Rattle.mk_edges.proofs.WaitLemmas.{no_line_orders, or_none}

@@ -4,8 +4,8 @@ use Rattle.std.proofs.lemmas.List.Folds.{list_all-append}
 use Rattle.std.proofs.lemmas.Result.{err_from_is_err_and}
 use Rattle.std.specs.List.{list_all, IsDistinct}
 use Rattle.std.specs.Str.{bytes_eq}
-use Rattle.mk_graph.specs.Numbering.{name_at, has_name, all_added}
-use Rattle.mk_graph.proofs.NameLemmas.{Begins, begins_all_added, below_from_begins, row_from_begins, length_from_begins, distinct_none, distinct_all_added, new_at}
+use Rattle.mk_names.specs.Names.{name_at, has_name, all_added}
+use Rattle.mk_names.proofs.NameLemmas.{Begins, begins_all_added, below_from_begins, row_from_begins, length_from_begins, distinct_none, distinct_all_added, new_at}
 use Rattle.mk_graph.proofs.NumberingLemmas.{Numbers, Numbers-start, Numbers-more, too_many_goals, too_many_found, reached, numbering_at_end, rows_at_end, rows_below_from_begins, asked_more, described_none, described_more, limit_fault_stands}
 use Rattle.mk_graph.proofs.numbering.number.Goals as goal
 

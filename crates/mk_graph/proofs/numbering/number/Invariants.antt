@@ -1,7 +1,8 @@
 use Rattle.std.proofs.Common.{◌≡◌, ℕ, ◌-◌, ◌≤◌, true, List, length, take, map, nat_lt}
 use Rattle.std.specs.List.{list_all, IsDistinct}
 use Rattle.std.specs.Str.{bytes_eq}
-use Rattle.mk_graph.specs.Numbering.{name_at, has_name, AreDescribed}
+use Rattle.mk_names.specs.Names.{name_at, has_name}
+use Rattle.mk_graph.specs.Numbering.{AreDescribed}
 use Rattle.mk_graph.proofs.NumberingLemmas.{Numbers}
 use Rattle.mk_graph.proofs.numbering.number.Given as goal
 

@@ -1,4 +1,4 @@
-use Rattle.std.proofs.Common.{◌≡◌, ℕ, List, Vec, Global, true, length, nat_lt, subst}
+use Rattle.std.proofs.Common.{◌≡◌, ℕ, List, true, length, nat_lt, subst}
 use Rattle.std.proofs.lemmas.Result.{IfOk-weaker}
 use Rattle.std.specs.List.{list_all}
 use Rattle.mk_graph.specs.Counted.{joined}

@@ -1,9 +1,9 @@
-use Rattle.std.proofs.Common.{◌<◌, [], ◌++◌, length, get_or, set, map, nat_lt, sym, ap, ◌∙◌, arith, length-set, ltb-true, subst, ◌≡◌, List, ℕ}
+use Rattle.std.proofs.Common.{◌<◌, [], ◌++◌, length, get_or, set, map, nat_lt, sym, ap, ◌∙◌, arith, length-set, ltb-true, subst, ◌≡◌}
 use Rattle.std.proofs.lemmas.List.{map-set, length-map, get_or-map}
 use Rattle.mk_graph.specs.Edges.{row, has}
 use Rattle.mk_graph.proofs.RowLemmas.{list_all_place}
 use Rattle.mk_graph.specs.Waits.{BeginWith}
-use Rattle.mk_graph.proofs.WaitLemmas.{row_added, begin_added, begin_same, begin_through}
+use Rattle.mk_graph.proofs.WaitLemmas.{row_added, begin_added, begin_through}
 use Rattle.mk_graph.proofs.waiting.add_to_rows.Goals as goal
 
 pub loop-node-preserved : goal.loop-node-preserved

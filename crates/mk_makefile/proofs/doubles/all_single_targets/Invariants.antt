@@ -1,6 +1,6 @@
 use Rattle.std.proofs.Common.{◌≡◌, drop}
 use Rattle.std.specs.List.{flat_map}
-use Rattle.mk_graph.specs.Numbering.{all_added}
+use Rattle.mk_names.specs.Names.{all_added}
 use Rattle.mk_makefile.specs.Kinded.{single_targets, all_single_targets}
 use Rattle.mk_makefile.proofs.doubles.all_single_targets.Given as goal
 

@@ -2,7 +2,7 @@ use Rattle.std.proofs.Common.{arith, ◌≡◌, ◌∙◌, List, ℕ, length, sy
 use Rattle.std.specs.List.{AllWithin}
 use Rattle.std.proofs.lemmas.Bool.Decides.{nat_tests}
 use Rattle.std.proofs.lemmas.List.Elements.{All-from_all_within}
-use Rattle.mk_graph.specs.Numbering.{has_name}
+use Rattle.mk_names.specs.Names.{has_name}
 use Rattle.mk_makefile.specs.Kinded.{double_targets, all_single_targets}
 use Rattle.mk_rule_lines.specs.Rules.{has}
 use Rattle.mk_makefile.proofs.DoubleLemmas.{IsFree, are_apart, both_kinds}

@@ -1,6 +1,6 @@
 use Rattle.std.proofs.Common.{◌≡◌, ◌∙◌, true, false, List, ℕ, sym, ap, subst}
 use Rattle.std.specs.List.{list_any}
-use Rattle.mk_graph.specs.Numbering.{has_name}
+use Rattle.mk_names.specs.Names.{has_name}
 use Rattle.mk_rule_lines.specs.Rules.{has}
 use Rattle.mk_makefile.proofs.DoubleLemmas.{first_among, later_among, left_among, chosen_double}
 use Rattle.mk_makefile.proofs.doubles.target_among.Goals as goal

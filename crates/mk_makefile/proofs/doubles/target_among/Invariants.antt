@@ -1,6 +1,6 @@
 use Rattle.std.specs.List.{list_any}
 use Rattle.std.proofs.Common.{◌≡◌, true, List, ℕ}
-use Rattle.mk_graph.specs.Numbering.{has_name}
+use Rattle.mk_names.specs.Names.{has_name}
 use Rattle.mk_rule_lines.specs.Rules.{has}
 use Rattle.mk_makefile.proofs.doubles.target_among.Given as goal
 

@@ -1,6 +1,6 @@
 use Rattle.std.proofs.Common.{◌≡◌, ◌++◌, map, filter, drop}
 use Rattle.mk_graph.specs.Edges.{row}
-use Rattle.mk_graph.specs.Numbering.{name_at}
+use Rattle.mk_names.specs.Names.{name_at}
 use Rattle.mk_seen.specs.Marks.{with_marks}
 use Rattle.mk_plan.specs.Tests.{is_newer_word, newer_words}
 use Rattle.mk_plan.proofs.nodes.newer_words.Given as goal

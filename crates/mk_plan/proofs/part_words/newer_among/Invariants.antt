@@ -1,6 +1,6 @@
 use Rattle.std.proofs.Common.{◌≡◌, ◌++◌, map, filter, drop}
 use Rattle.mk_graph.specs.Edges.{row}
-use Rattle.mk_graph.specs.Numbering.{name_at}
+use Rattle.mk_names.specs.Names.{name_at}
 use Rattle.mk_plan.specs.PartTests.{is_newer_among, newer_among}
 use Rattle.mk_seen.specs.Marks.{with_marks}
 use Rattle.mk_plan.proofs.part_words.newer_among.Given as goal

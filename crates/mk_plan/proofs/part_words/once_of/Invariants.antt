@@ -1,5 +1,5 @@
 use Rattle.std.proofs.Common.{◌≡◌}
-use Rattle.mk_graph.specs.Numbering.{all_added}
+use Rattle.mk_names.specs.Names.{all_added}
 use Rattle.mk_nodes.specs.Prerequisites.{distinct}
 use Rattle.mk_plan.proofs.part_words.once_of.Given as goal
 

@@ -1,5 +1,5 @@
 use Rattle.std.proofs.Common.{◌≡◌}
-use Rattle.mk_graph.specs.Numbering.{all_added}
+use Rattle.mk_names.specs.Names.{all_added}
 use Rattle.mk_nodes.specs.Prerequisites.{hidden_in}
 use Rattle.mk_seen.specs.Nodes.{entry_of}
 use Rattle.mk_plan.proofs.why.mention_hidden.Given as goal

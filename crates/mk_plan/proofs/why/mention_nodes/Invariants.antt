@@ -1,5 +1,5 @@
 use Rattle.std.proofs.Common.{◌≡◌, map, drop}
-use Rattle.mk_graph.specs.Numbering.{all_added, name_at}
+use Rattle.mk_names.specs.Names.{all_added, name_at}
 use Rattle.mk_plan.proofs.why.mention_nodes.Given as goal
 
 abbrev pub invariant-loop-node : goal.invariant-loop-node

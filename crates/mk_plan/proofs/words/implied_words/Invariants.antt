@@ -1,6 +1,6 @@
 use Rattle.std.proofs.Common.{◌≡◌, ◌++◌, drop, map, slice_get}
 use Rattle.mk_graph.specs.Edges.{row}
-use Rattle.mk_graph.specs.Numbering.{name_at}
+use Rattle.mk_names.specs.Names.{name_at}
 use Rattle.mk_nodes.specs.Node.{implied_in}
 use Rattle.mk_plan.specs.Words.{implied_names}
 use Rattle.mk_plan.proofs.words.implied_words.Given as goal

@@ -1,6 +1,6 @@
 use Rattle.std.proofs.Common.{◌≡◌, ◌++◌, drop, length, map}
 use Rattle.mk_graph.specs.Edges.{row}
-use Rattle.mk_graph.specs.Numbering.{name_at}
+use Rattle.mk_names.specs.Names.{name_at}
 use Rattle.mk_nodes.specs.Graph.{required_in}
 use Rattle.mk_plan.specs.Words.{order_only_words}
 use Rattle.mk_plan.proofs.words.words_behind_the_bar.Given as goal

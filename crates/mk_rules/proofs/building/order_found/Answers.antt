@@ -5,7 +5,8 @@ use Rattle.mk_graph.specs.Counted.{counting, IsDropped}
 use Rattle.mk_graph.specs.Cycle.{HasCycle}
 use Rattle.mk_graph.specs.Edges.{row, is_closed}
 use Rattle.mk_graph.specs.Plan.{IsPlan}
-use Rattle.mk_graph.specs.Numbering.{AreDescribed, has_name, name_at}
+use Rattle.mk_names.specs.Names.{has_name, name_at}
+use Rattle.mk_graph.specs.Numbering.{AreDescribed}
 use Rattle.mk_graph.proofs.CycleLemmas.{closed_row}
 use Rattle.mk_graph.specs.declared.numbering.Numbered.{Numbered}
 use Rattle.mk_settings.specs.Goals.{goals_of}

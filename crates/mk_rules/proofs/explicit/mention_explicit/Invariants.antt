@@ -1,6 +1,6 @@
 use Rattle.std.proofs.Common.{◌≡◌, ℕ, Bool, List, drop}
 use Rattle.std.specs.List.{flat_map}
-use Rattle.mk_graph.specs.Numbering.{all_added}
+use Rattle.mk_names.specs.Names.{all_added}
 use Rattle.mk_rule_lines.specs.Explicit.{names_in}
 use Rattle.mk_rule_lines.proofs.ExplicitLemmas.{names_at}
 use Rattle.mk_rules.specs.NodeNotes.{AreKnownNodes}

@@ -1,5 +1,5 @@
 use Rattle.std.proofs.Common.{◌≡◌, false, sym, ap, ◌∙◌}
-use Rattle.mk_graph.specs.Numbering.{all_added}
+use Rattle.mk_names.specs.Names.{all_added}
 use Rattle.mk_rule_lines.specs.Explicit.{is_bar, is_wait}
 use Rattle.mk_rules.specs.Row.{named, IsSomeRow}
 use Rattle.mk_rules.proofs.ExplicitLemmas.{left_in, word_taken}

@@ -1,7 +1,7 @@
 use Rattle.std.proofs.Common.{◌≡◌, ℕ, List, [], ◌++◌, length, filter, map as map_list, drop, sym, ap, subst, ◌∙◌}
 use Rattle.std.specs.FinMap as map
 use Rattle.std.specs.Option.{option_copied}
-use Rattle.mk_graph.specs.Numbering.{all_added}
+use Rattle.mk_names.specs.Names.{all_added}
 use Rattle.mk_rule_lines.specs.Explicit.{explicit_of}
 use Rattle.mk_nodes.specs.Prerequisites.{inputs_of, is_node, hidden_in}
 use Rattle.mk_rules.specs.Row.{named, IsRow}

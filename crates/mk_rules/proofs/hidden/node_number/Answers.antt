@@ -1,7 +1,7 @@
 use Rattle.std.proofs.Common.{◌≡◌, ◌<◌, ℕ, Option, length, true, sym, ap, subst, ◌∙◌}
 use Rattle.std.specs.Prelude.{IfSome}
 use Rattle.std.specs.FinMap as map
-use Rattle.mk_graph.specs.Numbering.{name_at}
+use Rattle.mk_names.specs.Names.{name_at}
 use Rattle.mk_nodes.specs.Prerequisites.{inputs_of, is_node}
 use Rattle.mk_rules.specs.NodeNotes.{is_marked, AreKnownNodes}
 use Rattle.mk_rules.proofs.RowLemmas.{added_known}

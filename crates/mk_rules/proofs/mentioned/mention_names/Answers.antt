@@ -1,5 +1,5 @@
 use Rattle.std.proofs.Common.{sym, ap, ◌∙◌}
-use Rattle.mk_graph.specs.Numbering.{all_added}
+use Rattle.mk_names.specs.Names.{all_added}
 use Rattle.mk_rules.specs.Row.{named, IsSomeRow}
 use Rattle.mk_rules.proofs.mentioned.mention_names.Goals as goal
 

@@ -2,7 +2,8 @@ use Rattle.std.proofs.Common.{◌≡◌, ◌<◌, ℕ, Bool, true, false, List, 
 use Rattle.std.specs.Prelude.{◌||◌, is_some, slice_get}
 use Rattle.std.proofs.lemmas.Option.{slice_get_read}
 use Rattle.mk_graph.specs.Edges.{has}
-use Rattle.mk_graph.specs.Numbering.{AreDescribed, name_at}
+use Rattle.mk_names.specs.Names.{name_at}
+use Rattle.mk_graph.specs.Numbering.{AreDescribed}
 use Rattle.mk_edges.specs.Known.{IsKnown}
 use Rattle.mk_nodes.specs.Prerequisites.{Inputs, default_of, is_target, is_made}
 use Rattle.mk_makefile.specs.Table.{is_named, named_at}

@@ -1,6 +1,7 @@
 use Rattle.std.proofs.Common.{◌≡◌, ℕ, nat_lt, ◌&&◌, not, false, []}
 use Rattle.mk_graph.specs.Edges.{has}
-use Rattle.mk_graph.specs.Numbering.{AreDescribed, name_at}
+use Rattle.mk_names.specs.Names.{name_at}
+use Rattle.mk_graph.specs.Numbering.{AreDescribed}
 use Rattle.mk_edges.specs.Known.{IsKnown}
 use Rattle.mk_nodes.specs.Prerequisites.{Inputs, is_made}
 use Rattle.mk_rules.proofs.unmade.unmade_nodes.Given as goal

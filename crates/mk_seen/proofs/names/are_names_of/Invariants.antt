@@ -1,5 +1,5 @@
 use Rattle.std.proofs.Common.{◌≡◌, drop, map}
-use Rattle.mk_graph.specs.Numbering.{name_at}
+use Rattle.mk_names.specs.Names.{name_at}
 use Rattle.mk_seen.specs.Names.{are_same}
 use Rattle.mk_seen.proofs.names.are_names_of.Given as goal
 

@@ -1,6 +1,6 @@
 use Rattle.std.proofs.Common.{◌≡◌, ◌++◌, map, drop}
 use Rattle.mk_graph.specs.Edges.{row}
-use Rattle.mk_graph.specs.Numbering.{name_at}
+use Rattle.mk_names.specs.Names.{name_at}
 use Rattle.mk_nodes.specs.Node.{explicit_in}
 use Rattle.mk_seen.specs.Nodes.{node_at, explicit_of}
 use Rattle.mk_seen.proofs.nodes.explicit_of.Given as goal

@@ -1,5 +1,5 @@
 use Rattle.std.proofs.Common.{◌||◌, sym, ap, ◌∙◌}
-use Rattle.mk_graph.specs.Numbering.{has_name}
+use Rattle.mk_names.specs.Names.{has_name}
 use Rattle.mk_sources.proofs.SetLemmas.{has_moved}
 use Rattle.mk_sources.proofs.distinct_names.set_of.Goals as goal
 

@@ -1,5 +1,5 @@
 use Rattle.std.proofs.Common.{◌≡◌, ◌||◌, ℕ, List}
-use Rattle.mk_graph.specs.Numbering.{has_name}
+use Rattle.mk_names.specs.Names.{has_name}
 use Rattle.mk_sources.proofs.distinct_names.set_of.Given as goal
 
 abbrev pub invariant-loop-name : goal.invariant-loop-name

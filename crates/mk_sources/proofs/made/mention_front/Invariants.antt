@@ -1,5 +1,5 @@
 use Rattle.std.proofs.Common.{◌≡◌, take}
-use Rattle.mk_graph.specs.Numbering.{all_added}
+use Rattle.mk_names.specs.Names.{all_added}
 use Rattle.mk_sources.proofs.made.mention_front.Given as goal
 
 abbrev pub invariant-loop-number : goal.invariant-loop-number

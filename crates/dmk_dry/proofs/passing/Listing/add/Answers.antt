@@ -1,5 +1,5 @@
 use Rattle.std.proofs.Common.{◌≡◌, ◌+◌, ℕ, List, ◌++◌, length, length-append, append_assoc, ap, ◌∙◌}
-use Rattle.mk_graph.specs.Numbering.{name_at}
+use Rattle.mk_names.specs.Names.{name_at}
 use Rattle.dmk_dry.specs.AlwaysRun.{always_passed}
 use Rattle.dmk_dry.specs.declared.always_run.AlwaysRun.{AlwaysRun}
 use Rattle.dmk_dry.specs.Listing.{recipe_in, text_of}

@@ -41,4 +41,4 @@ pub returns-in_err-check_pools-clause-fault : goal.returns-in_err-check_pools-cl
 returns-in_err-check_pools-clause-fault c =
     let f = c.in_err-check_pools.field-0.0 in
     handed_on _ (IsTakingFault c.args.lines.items) f (c.from_residual-in_err-check_pools.ensures).1
-    (pool_fault c.args.lines.items f (subst (λ (ls : List RuleLine). IsPoolFault ls f) c.deref-6.ensures.value c.in_err-check_pools.ensures))
+    (pool_fault c.args.lines.items f (subst (λ (ls : List RuleLine). IsPoolFault ls f) c.deref-6.ensures.value c.in_err-check_pools.ensures.err))

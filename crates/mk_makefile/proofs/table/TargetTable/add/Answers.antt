@@ -4,8 +4,8 @@ use Rattle.std.specs.List.{IsDistinct}
 use Rattle.std.specs.Str.{bytes_eq}
 use Rattle.std.proofs.lemmas.List.{map-append, map-set, length-map}
 use Rattle.std.proofs.lemmas.Option.{slice_get_read, slice_get-map}
-use Rattle.mk_graph.specs.Numbering.{name_at, added}
-use Rattle.mk_graph.proofs.NameLemmas.{distinct_all_added}
+use Rattle.mk_names.specs.Names.{name_at, added}
+use Rattle.mk_names.proofs.NameLemmas.{distinct_all_added}
 use Rattle.mk_makefile.specs.Named.{Named, nothing_named, named_in, shown_target}
 use Rattle.mk_makefile.specs.Table.{named_at, with_target}
 use Rattle.mk_makefile.specs.declared.table.Target.{Target}

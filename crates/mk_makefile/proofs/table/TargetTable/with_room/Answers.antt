@@ -1,5 +1,5 @@
 use Rattle.std.proofs.Common.{refl}
-use Rattle.mk_graph.proofs.NameLemmas.{distinct_none}
+use Rattle.mk_names.proofs.NameLemmas.{distinct_none}
 use Rattle.mk_makefile.proofs.table.TargetTable.with_room.Goals as goal
 
 pub invariant_of-result : goal.invariant_of-result

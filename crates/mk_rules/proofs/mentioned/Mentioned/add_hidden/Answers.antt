@@ -1,7 +1,7 @@
 use Rattle.std.proofs.Common.{◌≡◌, ℕ, ◌<◌, Bool, true, false, cond, ◌||◌, List, ◌∷◌, ◌++◌, [], Option, length, sym, ap, ◌∙◌, subst}
 use Rattle.std.specs.Prelude.{is_some, MatchOption}
 use Rattle.mk_graph.specs.Edges.{has}
-use Rattle.mk_graph.specs.Numbering.{name_at, has_name, added}
+use Rattle.mk_names.specs.Names.{name_at, has_name, added}
 use Rattle.mk_nodes.specs.Hidden.{Takes}
 use Rattle.mk_rules.specs.Row.{named, IsRow, IsSomeRow}
 use Rattle.mk_rules.proofs.RowLemmas.{row_more, named_more, has_is}

@@ -1,5 +1,5 @@
 use Rattle.std.proofs.Common.{◌≡◌}
-use Rattle.mk_graph.specs.Numbering.{all_added}
+use Rattle.mk_names.specs.Names.{all_added}
 use Rattle.mk_settings.proofs.marked.Marked.add_names.Given as goal
 
 abbrev pub invariant-loop-word : goal.invariant-loop-word

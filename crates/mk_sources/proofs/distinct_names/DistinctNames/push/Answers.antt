@@ -1,5 +1,5 @@
 use Rattle.std.proofs.Common.{length, inr, sym, ap, ◌∙◌, ⊎_elim, arith}
-use Rattle.mk_graph.specs.Numbering.{has_name, added}
+use Rattle.mk_names.specs.Names.{has_name, added}
 use Rattle.mk_sources.specs.DistinctNames.{HaveTheSame, IsSetOf}
 use Rattle.mk_sources.proofs.SetLemmas.{same_pushed}
 use Rattle.mk_sources.proofs.distinct_names.DistinctNames.push.Goals as goal

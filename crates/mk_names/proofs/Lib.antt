@@ -1,0 +1,5 @@
+pub mod NameLemmas
+pub mod ChainLemmas
+pub mod LinkLemmas
+pub mod EndsLemmas
+pub mod TextLemmas

@@ -1,0 +1,4 @@
+mod Items
+mod PackedLemmas
+mod Texts
+mod TargetLemmas
