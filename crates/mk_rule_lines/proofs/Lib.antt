@@ -1,4 +1,3 @@
-pub mod AddedLemmas
 pub mod BarLemmas
 pub mod ExplicitLemmas
 pub mod KindLemmas

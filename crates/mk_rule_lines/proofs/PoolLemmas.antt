@@ -1,51 +1,21 @@
 -- Lines of `.POOL`: their numbers, their names, and why one is refused.
 use Rattle.std.specs.Bool.{Decides}
-use Rattle.std.specs.List.{Any, list_any, list_all, flat_map}
-use Rattle.std.specs.Prelude.{min, sum}
-use Rattle.std.specs.Char.{is_ascii_digit, digit_value}
-use Rattle.std.specs.Str.Parse.{digits_value}
-use Rattle.std.proofs.Common.{◌≡◌, ◌∙◌, ℕ, ◌+◌, ◌*◌, ◌-◌, ◌<◌, Bool, true, false, cond, ◌||◌, List, [], ◌∷◌, ◌++◌, bytes_eq, length, take, drop, map, get_or, append_assoc, append-nil, Option, Some, None, refl, sym, ap, subst, arith}
+use Rattle.std.specs.Prelude.{is_some}
+use Rattle.std.specs.List.{Any, list_any, flat_map}
+use Rattle.std.proofs.Common.{◌≡◌, ◌∙◌, ℕ, ◌+◌, ◌<◌, Bool, true, false, cond, ◌||◌, List, [], ◌∷◌, ◌++◌, bytes_eq, length, take, drop, get_or, append_assoc, append-nil, Option, Some, refl, sym, ap, subst}
 use Rattle.std.proofs.lemmas.Bool.{both_ways}
-use Rattle.std.proofs.lemmas.Bool.Decides.{nat_tests}
-use Rattle.std.proofs.lemmas.Int.Digits.{digits_value_more}
 use Rattle.std.proofs.lemmas.List.{take_more, take-append-drop}
-use Rattle.std.proofs.lemmas.List.Folds.{list_all_at, list_any-append}
-use Rattle.mk_graph.specs.Numbering.{has_name, all_added}
-use Rattle.mk_graph.proofs.NameLemmas.{all_added-append}
+use Rattle.std.proofs.lemmas.List.Folds.{list_any-append}
+use Rattle.mk_names.specs.Names.{has_name, all_added}
+use Rattle.mk_names.proofs.NameLemmas.{all_added-append, has_all_added, same_bytes}
 use Rattle.mk_reader.specs.declared.special.SpecialName.{SpecialName}
 use Rattle.mk_reader.specs.declared.special.SpecialName.TheVariants.{Pool as PoolName}
-use Rattle.mk_rule_lines.specs.Pools.{IsPoolLine, is_pool, members_in, HasMember, names_in_pool, names_in_pools, HasPoolFault, IsPoolCause}
-use Rattle.mk_rule_lines.specs.Rules.{has}
+use Rattle.mk_rule_lines.specs.Pools.{is_pool, most_said, members_in, HasMember, names_in_pool, names_in_pools, HasPoolFault, HasNoPoolFault, IsPoolCause, HasNoPoolCause}
+use Rattle.mk_rule_lines.specs.Rules.{has, has_percent}
+use Rattle.mk_rule_lines.specs.declared.pool_faults.PoolCause.TheVariants.{NoNumber, OfPattern, InTwo}
 use Rattle.mk_rule_lines.specs.declared.pool_faults.PoolFault.{PoolFault}
 use Rattle.mk_rule_lines.specs.declared.rule_line.RuleLine.{RuleLine}
 use Rattle.mk_rule_lines.proofs.KindLemmas.{any_decides}
-use Rattle.mk_rule_lines.proofs.AddedLemmas.{has_all_added}
-
--- ---- a number is read digit by digit
-
--- a number that counts up to a bound, with one more digit
-number_by : (value digit number product next : ℕ) → number ≡ min value 65535 → product ≡ min (number * 10) 65535
-    → next ≡ min (product + digit) 65535 → next ≡ min (value * 10 + digit) 65535
-number_by value digit number product next is times by = omega arith
-
--- each byte of digits is one
-is_digit_at : (text : List ℕ) (i : ℕ) (is : Bool) → i < length text → list_all is_ascii_digit text ≡ true → is_ascii_digit (get_or text i 0) ≡ is
-    → is ≡ true
-is_digit_at text i true within all e = refl
-is_digit_at text i false within all e = let no : true ≡ false = sym all ∙ list_all_at is_ascii_digit text i 0 within e in cc
-
--- the value of a digit
-value_of : (byte : ℕ) → is_ascii_digit byte ≡ true → digit_value byte ≡ byte - 48
-value_of byte is = grind (arith, nat_tests)
-
-pub number_more : (text : List ℕ) (i number product next : ℕ) → i < length text → list_all is_ascii_digit text ≡ true
-    → number ≡ min (digits_value 10 (take i text)) 65535 → product ≡ min (number * 10) 65535
-    → next ≡ min (product + (get_or text i 0 - 48)) 65535 → next ≡ min (digits_value 10 (take (i + 1) text)) 65535
-number_more text i number product next within all is times by =
-    let byte : ℕ = get_or text i 0 in
-    let digit : digit_value byte ≡ byte - 48 = value_of byte (is_digit_at text i (is_ascii_digit byte) within all refl) in
-    number_by (digits_value 10 (take i text)) (byte - 48) number product next is times by
-    ∙ ap (λ n. min n 65535) (ap (λ d. digits_value 10 (take i text) * 10 + d) (sym digit) ∙ sym (digits_value_more 10 text i within))
 
 -- ---- names of lines
 
@@ -112,3 +82,83 @@ pool_refused lines k l told at cause file number = record {
   file = file;
   number = number;
 }
+
+-- ---- what is refused for no cause
+
+one_of : (p : List ℕ → Bool) (n name : List ℕ) (has_rest any_rest : Bool) → (bytes_eq name n || has_rest) ≡ true → p name ≡ true
+    → (has_rest ≡ true → any_rest ≡ true) → (p n || any_rest) ≡ true
+one_of p n name has_rest any_rest h is rest = by (bytes_eq name n) refl
+  where
+    or_true : (q : Bool) → (q || true) ≡ true
+    or_true true = refl
+    or_true false = refl
+
+    by : (b : Bool) → bytes_eq name n ≡ b → (p n || any_rest) ≡ true
+    by true e = ap (λ q. q || any_rest) (sym (ap p (same_bytes name n e)) ∙ is)
+    by false e = ap (λ q. p n || q) (rest (sym (ap (λ b. b || has_rest) e) ∙ h)) ∙ or_true (p n)
+
+-- a name among others that passes a test makes one pass
+any_of : (p : List ℕ → Bool) (names : List (List ℕ)) (name : List ℕ) → has name names ≡ true → p name ≡ true → list_any p names ≡ true
+any_of p [] name h is = absurd (cc h)
+any_of p (n ∷ names) name h is = one_of p n name (has name names) (list_any p names) h is (λ there. any_of p names name there is)
+
+-- a name of some line above is one of the names above
+named_in : (lines : List RuleLine) (name : List ℕ) → Any (λ l. HasMember l name) lines → has_name (names_in_pools lines) name ≡ true
+named_in lines name some =
+    has_all_added [] (flat_map names_in_pool lines) name ∙ any-flat_map (bytes_eq name) names_in_pool lines
+    ∙ (any_decides (λ l. has name (names_in_pool l)) (λ l. HasMember l name) (member_decides name) lines).1 some
+
+-- a line that says how many, and whose names are no patterns and in no pool above, is refused for no cause
+pub no_cause : (above : List RuleLine) (l : RuleLine) → is_some (most_said l.prerequisites) ≡ true
+    → list_any has_percent (members_in l.prerequisites) ≡ false → list_any (has_name (names_in_pools above)) (members_in l.prerequisites) ≡ false
+    → HasNoPoolCause above l
+no_cause above l said plain fresh NoNumber (is, none) = let no : true ≡ false = sym said ∙ ap is_some none in absurd (cc no)
+no_cause above l said plain fresh (OfPattern name) ((is, h), percent) =
+    let no : true ≡ false = sym (any_of has_percent (members_in l.prerequisites) name h percent) ∙ plain in absurd (cc no)
+no_cause above l said plain fresh (InTwo name) ((is, h), some) =
+    let no : true ≡ false = sym (any_of (has_name (names_in_pools above)) (members_in l.prerequisites) name h (named_in above name some)) ∙ fresh in absurd (cc no)
+
+-- a line that is of no pool is refused for no cause
+pub no_pool : (above : List RuleLine) (l : RuleLine) → is_pool l.special ≡ false → HasNoPoolCause above l
+no_pool above l e NoNumber (is, none) = absurd (both_ways (is_pool l.special) e (ap is_pool is))
+no_pool above l e (OfPattern name) ((is, h), percent) = absurd (both_ways (is_pool l.special) e (ap is_pool is))
+no_pool above l e (InTwo name) ((is, h), some) = absurd (both_ways (is_pool l.special) e (ap is_pool is))
+
+-- a line of some lines and one more is the one more, or one of them
+data Split (lines : List RuleLine) (l : RuleLine) (above : List RuleLine) (line : RuleLine) : Type 0 where
+  at_end : above ≡ lines → line ≡ l → Split lines l above line
+  before : (below : List RuleLine) → lines ≡ above ++ line ∷ below → Split lines l above line
+
+further : (x a : RuleLine) (lines : List RuleLine) (l : RuleLine) (above : List RuleLine) (line : RuleLine) → x ≡ a → Split lines l above line
+    → Split (x ∷ lines) l (a ∷ above) line
+further x a lines l above line same (at_end is one) = at_end (ap (λ m. m ∷ above) (sym same) ∙ ap (λ ls. x ∷ ls) is) one
+further x a lines l above line same (before below is) = before below (ap (λ m. m ∷ lines) same ∙ ap (λ ls. a ∷ ls) is)
+
+split : (lines : List RuleLine) (l : RuleLine) (above : List RuleLine) (line : RuleLine) (below : List RuleLine)
+    → lines ++ l ∷ [] ≡ above ++ line ∷ below → Split lines l above line
+split [] l [] line below e = at_end refl (cc e)
+split [] l (a ∷ []) line below e = absurd (cc e)
+split [] l (a ∷ b ∷ above) line below e = absurd (cc e)
+split (x ∷ lines) l [] line below e = let same : x ≡ line = cc e in before lines (ap (λ m. m ∷ lines) same)
+split (x ∷ lines) l (a ∷ above) line below e =
+    let same : x ≡ a = cc e in
+    let rest : lines ++ l ∷ [] ≡ above ++ line ∷ below = cc e in
+    further x a lines l above line same (split lines l above line below rest)
+
+-- lines of which none is refused, and one more that is refused for no cause
+pub none_more : (lines : List RuleLine) (k : ℕ) (l : RuleLine) → k < length lines → l ≡ get_or lines k l
+    → HasNoPoolFault (take k lines) → HasNoPoolCause (take k lines) l → HasNoPoolFault (take (k + 1) lines)
+none_more lines k l within at none clear told refused = by (split (take k lines) l refused.above refused.line refused.below
+    (ap (λ line. take k lines ++ line ∷ []) at ∙ sym (take_more lines k l within) ∙ refused.whole))
+  where
+    by : Split (take k lines) l refused.above refused.line → ⊥
+    by (at_end is one) = clear told.cause (subst (λ (ls : List RuleLine). IsPoolCause ls l told.cause) is (subst (λ (m : RuleLine). IsPoolCause refused.above m told.cause) one refused.cause))
+    by (before below is) = none told (record {
+      above = refused.above;
+      line = refused.line;
+      below = below;
+      whole = is;
+      cause = refused.cause;
+      file = refused.file;
+      number = refused.number;
+    })

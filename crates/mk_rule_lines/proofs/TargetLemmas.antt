@@ -1,7 +1,7 @@
 -- The targets of a line that are suffix rules, or those that are not.
 use Rattle.std.proofs.Common.{◌≡◌, ℕ, Bool, true, false, not, ◌&&◌, ◌||◌, List, [], ◌∷◌, filter, refl}
 use Rattle.std.proofs.lemmas.Bool.{and_parts}
-use Rattle.mk_rule_lines.specs.Rules.{has, comes_out, is_suffix_target, makes_targets, may_be_suffix_rule, targets_by}
+use Rattle.mk_rule_lines.specs.Rules.{comes_out, is_suffix_target, makes_targets, may_be_suffix_rule, targets_by}
 use Rattle.mk_rule_lines.specs.declared.rule_line.RuleLine.{RuleLine}
 
 -- those of this choice among the targets that are left

@@ -1,9 +1,8 @@
 -- What lines of `.POOL` say, and which are refused. Own, as ninja's pools: `.POOL: NUMBER TARGET ..`, and each line is a pool of its own.
-use Rattle.std.specs.Prelude.{◌≡◌, ℕ, Bool, true, false, ◌&&◌, List, [], ◌∷◌, ◌++◌, drop, Option, Some, None, option_and_then, nat_le, min, if◌then◌else◌}
-use Rattle.std.specs.List.{Any, list_all, flat_map}
-use Rattle.std.specs.Char.{is_ascii_digit}
-use Rattle.std.specs.Str.Parse.{digits_value}
-use Rattle.mk_graph.specs.Numbering.{all_added}
+use Rattle.std.specs.Prelude.{◌≡◌, ℕ, Bool, true, false, ◌&&◌, List, [], ◌∷◌, ◌++◌, drop, Option, Some, None, option_and_then, nat_le, if◌then◌else◌}
+use Rattle.std.specs.List.{Any, flat_map}
+use Rattle.byte_strings.specs.Digits.{number_of}
+use Rattle.mk_names.specs.Names.{all_added}
 use Rattle.mk_reader.specs.declared.special.SpecialName.{SpecialName}
 use Rattle.mk_reader.specs.declared.special.SpecialName.TheVariants.{Pool as PoolName}
 use Rattle.mk_rule_lines.specs.Rules.{has, has_percent}
@@ -22,11 +21,6 @@ abbrev pub is_pool : Option SpecialName → Bool
 is_pool (Some PoolName) = true
 is_pool _ = false
 
--- the number that a text is, if it is digits alone; a larger one than 65,535 is that
-abbrev pub number_in : (text : List ℕ) → Option ℕ
-number_in [] = None
-number_in (b ∷ rest) = if list_all is_ascii_digit (b ∷ rest) then Some (min (digits_value 10 (b ∷ rest)) 65535) else None
-
 -- a number of recipes that may run at once: 1 to 256, as of a `-j`
 abbrev pub if_of_recipes : ℕ → Option ℕ
 if_of_recipes number = if nat_le 1 number && nat_le number 256 then Some number else None
@@ -34,7 +28,7 @@ if_of_recipes number = if nat_le 1 number && nat_le number 256 then Some number 
 -- how many recipes of its targets may run at once, as the line's first word says
 abbrev pub most_said : (words : List (List ℕ)) → Option ℕ
 most_said [] = None
-most_said (word ∷ words) = option_and_then if_of_recipes (number_in word)
+most_said (word ∷ words) = option_and_then if_of_recipes (number_of word)
 
 -- the targets that the line names
 abbrev pub members_in : (words : List (List ℕ)) → List (List ℕ)
@@ -53,6 +47,10 @@ IsPoolCause above l NoNumber = IsPoolLine l × (most_said l.prerequisites ≡ No
 IsPoolCause above l (OfPattern name) = HasMember l name × (has_percent name ≡ true)
 IsPoolCause above l (InTwo name) = HasMember l name × Any (λ other. HasMember other name) above
 
+-- it is refused for none
+abbrev pub HasNoPoolCause : (above : List RuleLine) → RuleLine → Type 0
+HasNoPoolCause above l = (cause : PoolCause) → IsPoolCause above l cause → ⊥
+
 -- some line is refused so, which stands there
 pub record HasPoolFault (lines : List RuleLine) (told : PoolFault) : Type 0 where
   pub above : List RuleLine
@@ -62,6 +60,10 @@ pub record HasPoolFault (lines : List RuleLine) (told : PoolFault) : Type 0 wher
   pub cause : IsPoolCause above line told.cause
   pub file : told.place.file ≡ line.file
   pub number : told.place.line ≡ line.line
+
+-- no line is refused
+abbrev pub HasNoPoolFault : List RuleLine → Type 0
+HasNoPoolFault lines = (told : PoolFault) → HasPoolFault lines told → ⊥
 
 abbrev pub IsPoolFault : List RuleLine → RuleFault → Type 0
 IsPoolFault lines fault.OutOfMemory = Unit {0}

@@ -1,7 +1,8 @@
 //! Which lines of `.POOL` are refused.
-ghost use Rattle.std.specs.Prelude.{◌≡◌, List, true, option_copied, IfOk, IfErr, IfSome};
-ghost use Rattle.mk_graph.specs.Numbering.{has_name};
-ghost use Rattle.mk_rule_lines.specs.Pools.{IsPoolLine, IsPoolCause, IsPoolFault, members_in, names_in_pools};
+ghost use Rattle.std.specs.Prelude.{◌≡◌, List, true, false, option_copied, IfOk, IfErr, IfSome, IfNone};
+ghost use Rattle.std.specs.List.{list_any};
+ghost use Rattle.mk_names.specs.Names.{has_name};
+ghost use Rattle.mk_rule_lines.specs.Pools.{IsPoolLine, IsPoolCause, HasNoPoolCause, HasNoPoolFault, IsPoolFault, members_in, names_in_pools};
 ghost use Rattle.mk_rule_lines.specs.Rules.{has, has_percent};
 ghost use Rattle.mk_rule_lines.specs.declared.rule_line.RuleLine.{RuleLine as Line};
 
@@ -9,7 +10,7 @@ use crate::fault::{RuleFault, TextPlace};
 use crate::pool_line::{add_members, is_pool, members_in, most_said};
 use crate::rule_line::{RuleLine, has_percent};
 use byte_strings::ByteString;
-use mk_graph::Names;
+use mk_names::Names;
 use std::alloc::{AllocError, Global};
 use std::fmt;
 use thiserror::Error;
@@ -60,7 +61,8 @@ impl fmt::Display for PoolFault {
 
 // A pattern among the targets that the line names.
 fn pattern_in(line: &RuleLine) -> Option<&[u8]>
-    ensures { IfSome (option_copied result) (λ name. (has name (members_in line.now.prerequisites) ≡ true) × (has_percent name ≡ true)) }
+    ensures some { IfSome (option_copied result) (λ name. (has name (members_in line.now.prerequisites) ≡ true) × (has_percent name ≡ true)) }
+    ensures none { IfNone result (list_any has_percent (members_in line.now.prerequisites) ≡ false) }
 {
     for name in members_in(&line.prerequisites) {
         if has_percent(name) {
@@ -72,7 +74,8 @@ fn pattern_in(line: &RuleLine) -> Option<&[u8]>
 
 // One of these names among them.
 fn member_among<'l>(names: &Names, line: &'l RuleLine) -> Option<&'l [u8]>
-    ensures { IfSome (option_copied result) (λ name. (has name (members_in line.now.prerequisites) ≡ true) × (has_name names.now name ≡ true)) }
+    ensures some { IfSome (option_copied result) (λ name. (has name (members_in line.now.prerequisites) ≡ true) × (has_name names.now name ≡ true)) }
+    ensures none { IfNone result (list_any (has_name names.now) (members_in line.now.prerequisites) ≡ false) }
 {
     for name in members_in(&line.prerequisites) {
         if names.number_of(name).is_some() {
@@ -85,7 +88,8 @@ fn member_among<'l>(names: &Names, line: &'l RuleLine) -> Option<&'l [u8]>
 // Why a line of `.POOL` is refused, where these names stand in pools above.
 fn cause_of(alloc: Global, seen: &Names, line: &RuleLine) -> Result<Option<PoolCause>, AllocError>
     requires { IsPoolLine line.now }
-    ensures { IfOk result (λ found. IfSome found (λ cause. (above : List Line) → seen.now ≡ names_in_pools above → IsPoolCause above line.now cause)) }
+    ensures some { IfOk result (λ found. IfSome found (λ cause. (above : List Line) → seen.now ≡ names_in_pools above → IsPoolCause above line.now cause)) }
+    ensures none { IfOk result (λ found. IfNone found ((above : List Line) → seen.now ≡ names_in_pools above → HasNoPoolCause above line.now)) }
 {
     if most_said(&line.prerequisites).is_none() {
         return Ok(Some(PoolCause::NoNumber));
@@ -111,7 +115,8 @@ fn place_of(alloc: Global, line: &RuleLine) -> Result<TextPlace, AllocError>
 
 /// Refuses lines of `.POOL` that don't say which recipes are meant, and how many run at once.
 pub fn check_pools(alloc: Global, lines: &[RuleLine]) -> Result<(), RuleFault>
-    ensures { IfErr result (IsPoolFault lines.now) }
+    ensures ok { IfOk result (λ done. HasNoPoolFault lines.now) }
+    ensures err { IfErr result (IsPoolFault lines.now) }
 {
     let mut seen = Names::new(alloc);
     for line in lines {

@@ -1,14 +1,12 @@
 //! What a line of `.POOL` says.
 ghost use Rattle.std.specs.Prelude.{◌≡◌, OnOk};
-ghost use Rattle.std.specs.List.{list_all};
-ghost use Rattle.std.specs.Char.{is_ascii_digit};
-ghost use Rattle.mk_graph.specs.Numbering.{all_added};
-ghost use Rattle.mk_rule_lines.specs.Pools.{is_pool, number_in, if_of_recipes, most_said, members_in};
+ghost use Rattle.mk_names.specs.Names.{all_added};
+ghost use Rattle.mk_rule_lines.specs.Pools.{is_pool, if_of_recipes, most_said, members_in};
 
 use crate::line_words::LineWords;
 use crate::rule_line::RuleLine;
-use byte_strings::Words;
-use mk_graph::Names;
+use byte_strings::{Words, number_of};
+use mk_names::Names;
 use mk_reader::SpecialName;
 use std::alloc::{AllocError, Global};
 
@@ -23,28 +21,6 @@ pub fn is_pool(line: &RuleLine) -> bool
         Some(SpecialName::Pool) => true,
         _ => false,
     }
-}
-
-fn are_digits(text: &[u8]) -> bool
-    ensures { result ≡ list_all is_ascii_digit text.now }
-{
-    text.iter().all(|byte| byte.is_ascii_digit())
-}
-
-// The number that a text is, if it is digits alone.
-fn number_in(text: &[u8]) -> Option<u16>
-    ensures { result ≡ number_in text.now }
-{
-    if text.is_empty() || !are_digits(text) {
-        return None;
-    }
-    let mut number: u16 = 0;
-    for byte in text {
-        number = number
-            .saturating_mul(10)
-            .saturating_add(u16::from(byte - b'0'));
-    }
-    Some(number)
 }
 
 // The number, where so many recipes may run at once.
@@ -62,7 +38,7 @@ fn if_of_recipes(number: u16) -> Option<u16>
 pub fn most_said(words: &LineWords) -> Option<u16>
     ensures { result ≡ most_said words.now }
 {
-    if_of_recipes(number_in(words.first()?)?)
+    if_of_recipes(number_of(words.first()?)?)
 }
 
 /// The targets that these words name.

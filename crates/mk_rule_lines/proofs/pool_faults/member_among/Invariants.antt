@@ -1,7 +1,11 @@
 use Rattle.std.proofs.Common.{◌≡◌, true, List, ℕ}
+use Rattle.std.specs.List.{list_any}
+use Rattle.mk_names.specs.Names.{has_name}
 use Rattle.mk_rule_lines.specs.Pools.{members_in}
 use Rattle.mk_rule_lines.specs.Rules.{has}
 use Rattle.mk_rule_lines.proofs.pool_faults.member_among.Given as goal
 
+-- the names that are left are of the line, and those before them pass no test
 abbrev pub invariant-loop-name : goal.invariant-loop-name
-invariant-loop-name l = (n : List ℕ) → has n l.name-iterator ≡ true → has n (members_in l.line.prerequisites) ≡ true
+invariant-loop-name l = ((n : List ℕ) → has n l.name-iterator ≡ true → has n (members_in l.line.prerequisites) ≡ true)
+    × (list_any (has_name l.names) (members_in l.line.prerequisites) ≡ list_any (has_name l.names) l.name-iterator)

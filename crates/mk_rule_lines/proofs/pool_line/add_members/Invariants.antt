@@ -1,5 +1,5 @@
 use Rattle.std.proofs.Common.{◌≡◌}
-use Rattle.mk_graph.specs.Numbering.{all_added}
+use Rattle.mk_names.specs.Names.{all_added}
 use Rattle.mk_rule_lines.specs.Pools.{members_in}
 use Rattle.mk_rule_lines.proofs.pool_line.add_members.Given as goal
 
