@@ -1,11 +1,10 @@
 -- How many recipes may run at once by the options in MAKEFLAGS (POSIX make, `-j` and MAKEFLAGS). What it leaves open is as GNU make reads
 -- it: a `-j` may stand among other letters, its number may be a word of its own, and without one it sets no bound, which here is the number
 -- of the processors.
-use Rattle.std.specs.Prelude.{ℕ, Bool, false, not, ◌&&◌, List, [], ◌∷◌, Option, Some, None, option_map, option_and_then, nat_eq, bytes_eq, min, codes, if◌then◌else◌}
-use Rattle.std.specs.List.{list_any, list_all}
-use Rattle.std.specs.Char.{is_ascii_digit}
+use Rattle.std.specs.Prelude.{ℕ, Bool, false, not, ◌&&◌, List, [], ◌∷◌, Option, Some, None, option_map, option_and_then, nat_eq, bytes_eq, codes, if◌then◌else◌}
+use Rattle.std.specs.List.{list_any}
 use Rattle.std.specs.Option.{option_or, option_map_or}
-use Rattle.std.specs.Str.Parse.{digits_value}
+use Rattle.byte_strings.specs.Digits.{number_of}
 use Rattle.jb_flags.specs.declared.jobs.Jobs.{Jobs}
 use Rattle.jb_flags.specs.declared.jobs.Jobs.TheVariants.{Processors, UpTo}
 
@@ -30,11 +29,6 @@ letters_of is_first (b ∷ rest) =
     if is_long (b ∷ rest) then None else
     if nat_eq b 45 then Some rest else
     if is_first && not (list_any (nat_eq 61) (b ∷ rest)) then Some (b ∷ rest) else None
-
--- the number that a text is, if it is digits alone; a larger one than 65,535 is that
-abbrev pub number_of : (text : List ℕ) → Option ℕ
-number_of [] = None
-number_of (b ∷ rest) = if list_all is_ascii_digit (b ∷ rest) then Some (min (digits_value 10 (b ∷ rest)) 65535) else None
 
 -- the first of these words
 abbrev pub first_of : (words : List (List ℕ)) → Option (List ℕ)

@@ -1,10 +1,8 @@
 //! How many recipes may run at once, as MAKEFLAGS says.
 ghost use Rattle.std.specs.Prelude.{◌≡◌, ◌++◌, true, IfOk, codes, decimal, option_map};
-ghost use Rattle.std.specs.List.{list_all};
-ghost use Rattle.std.specs.Char.{is_ascii_digit};
-ghost use Rattle.jb_flags.specs.Jobs.{has_value, behind_jobs, is_long, letters_of, number_of, asked, asked_by, jobs_of};
+ghost use Rattle.jb_flags.specs.Jobs.{has_value, behind_jobs, is_long, letters_of, asked, asked_by, jobs_of};
 
-use byte_strings::ByteStrings;
+use byte_strings::{ByteStrings, number_of};
 use std::alloc::{AllocError, Global};
 
 /// The letters of options behind which a value stands, in this make and in others.
@@ -67,28 +65,6 @@ fn letters_of(is_first: bool, word: &[u8]) -> Option<&[u8]>
     }
 }
 
-fn are_digits(text: &[u8]) -> bool
-    ensures { result ≡ list_all is_ascii_digit text.now }
-{
-    text.iter().all(|byte| byte.is_ascii_digit())
-}
-
-// The number that a text is, if it is digits alone.
-fn number_of(text: &[u8]) -> Option<u16>
-    ensures { result ≡ number_of text.now }
-{
-    if text.is_empty() || !are_digits(text) {
-        return None;
-    }
-    let mut number: u16 = 0;
-    for byte in text {
-        number = number
-            .saturating_mul(10)
-            .saturating_add(u16::from(byte - b'0'));
-    }
-    Some(number)
-}
-
 // What a -j asks for, by what stands behind it in its word, and the next word.
 fn asked(behind: &[u8], next: Option<&[u8]>) -> Option<Jobs>
     ensures { result ≡ asked behind.now (option_map (λ word. word.now) next.entry) }
@@ -96,7 +72,11 @@ fn asked(behind: &[u8], next: Option<&[u8]>) -> Option<Jobs>
     if !behind.is_empty() {
         return Some(Jobs::UpTo(number_of(behind)?));
     }
-    match next.and_then(number_of) {
+    let number = match next {
+        Some(word) => number_of(word),
+        None => None,
+    };
+    match number {
         Some(number) => Some(Jobs::UpTo(number)),
         None => Some(Jobs::Processors),
     }

@@ -10,7 +10,7 @@ mod words;
 mod workers;
 
 pub use handing::{Handed, Handing, PROFILE, definition_words};
-pub use jobs::{Jobs, has_value, jobs_of, jobs_word};
+pub use jobs::{has_value, jobs_word};
 pub use laws::{one_reading, read_as_written};
 pub use load::{Load, load_word};
 pub use told::opened_words;

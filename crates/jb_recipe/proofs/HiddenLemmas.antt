@@ -1,8 +1,8 @@
 -- Names that are mentioned one after the other.
 use Rattle.std.proofs.Common.{◌≡◌, ◌∙◌, ℕ, List, [], ◌++◌, sym, ap}
 use Rattle.std.proofs.lemmas.List.{append-nil}
-use Rattle.mk_graph.specs.Numbering.{all_added}
-use Rattle.mk_graph.proofs.NameLemmas.{all_added-append}
+use Rattle.mk_names.specs.Names.{all_added}
+use Rattle.mk_names.proofs.NameLemmas.{all_added-append}
 use Rattle.jb_recipe.specs.Hidden.{AreHidden, AreMore, no_hidden}
 
 -- of two lists, one behind the other

@@ -7,8 +7,7 @@ use Rattle.st_records.specs.declared.record.Record.TheVariants as records
 use Rattle.st_records.specs.declared.limits.RecordFault.{RecordFault}
 use Rattle.st_records.specs.declared.version.Form.{Form}
 use Rattle.st_records.specs.declared.version.Form.TheVariants as forms
-use Rattle.st_records.specs.Limits.{IsWithinIn, IsFirstFaultIn, SaysExplicitIn}
-use Rattle.jb_recipe.specs.Noting.{said_in}
+use Rattle.st_records.specs.Limits.{IsWithinIn, IsFirstFaultIn}
 use Rattle.jb_recipe.specs.declared.variables.Makeflags.{Makeflags}
 use Rattle.jb_recipe.specs.Environment.{environment, NamesReport, is_passed_on, last_value, report_to, set_flags}
 
@@ -22,23 +21,6 @@ pub ok_if_within : (form : Form) (note : Record) (r : Result Unit RecordFault)
     → MatchResult r (λ _. IsWithinIn form note) (λ fault. IsFirstFaultIn form note fault) → IsWithinIn form note → is_ok r ≡ true
 ok_if_within form note (Ok x) says within = refl
 ok_if_within form note (Err fault) says within = absurd (within fault says.broken)
-
--- in each form a record says of explicit names what that form can say: a 'begun' and a 'failed' nothing, a 'done' as it is made
-pub begun_says : (form : Form) (target : List ℕ) → SaysExplicitIn form (records.Begun target)
-begun_says forms.Old target = refl
-begun_says forms.Plain target = tt
-begun_says forms.Marked target = tt
-
-pub failed_says : (form : Form) (target : List ℕ) (status : ℕ) → SaysExplicitIn form (records.Failed target status)
-failed_says forms.Old target status = refl
-failed_says forms.Plain target status = tt
-failed_says forms.Marked target status = tt
-
-pub done_says : (form : Form) (target : List ℕ) (commands hidden explicit : List (List ℕ)) (marks : List ℕ)
-    → SaysExplicitIn form (records.Done target commands hidden (said_in form explicit marks))
-done_says forms.Old target commands hidden explicit marks = refl
-done_says forms.Plain target commands hidden explicit marks = tt
-done_says forms.Marked target commands hidden explicit marks = tt
 
 -- what stands behind counts where it has the name
 last_value_behind : (name found : List ℕ) (variables behind : List Variable)

@@ -1,6 +1,6 @@
 -- The hidden prerequisites of a target. Own.
 use Rattle.std.specs.Prelude.{◌≡◌, ℕ, List, [], ◌∷◌, ◌++◌}
-use Rattle.mk_graph.specs.Numbering.{all_added}
+use Rattle.mk_names.specs.Names.{all_added}
 
 -- these are new behind the names: all that are mentioned are there with them, each once, in the order in which they are mentioned first
 abbrev pub AreNew : (names mentioned new : List (List ℕ)) → Type 0

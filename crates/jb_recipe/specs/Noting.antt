@@ -1,7 +1,7 @@
 -- What is noted of a recipe. Own.
 use Rattle.std.specs.Prelude.{◌≡◌, ◌⊎◌, ℕ, Bool, ◌&&◌, not, is_some, List, map}
 use Rattle.mk_graph.specs.Edges.{row}
-use Rattle.mk_graph.specs.Numbering.{name_at}
+use Rattle.mk_names.specs.Names.{name_at}
 use Rattle.mk_rule_lines.specs.Explicit.{is_phony}
 use Rattle.mk_settings.specs.Marks.{has_mark}
 use Rattle.mk_nodes.specs.declared.graph.Graph.{Graph}

@@ -1,7 +1,7 @@
 //! Commands by which a compiler writes what it read elsewhere than into the report, and where: by the options of gcc.
 use byte_strings::{ByteStrings, Words};
 use mk_depfiles::depfile_of;
-use mk_graph::Names;
+use mk_names::Names;
 use std::alloc::{AllocError, Global};
 
 /// The options that have gcc write what it read into a file of its own: then it writes no report.

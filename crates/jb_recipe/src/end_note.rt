@@ -6,9 +6,10 @@ ghost use Rattle.jb_recipe.specs.Environment.{NamesReport};
 ghost use Rattle.jb_recipe.specs.Files.{AreLooksAt, IsLooked, is_marked};
 
 use crate::depfile::Depfiles;
+use crate::files::Files;
 use crate::looking::look_before;
 use crate::noting::{Plan, writable};
-use crate::{Files, NotDone, Place, PlaceFault};
+use crate::{NotDone, Place, PlaceFault};
 use bd_flusher::Receipt;
 use bd_lists::{Clearance, Recipe};
 use byte_strings::{ByteString, ByteStrings};

@@ -1,10 +1,10 @@
 //! The hidden prerequisites of a target, by what its report and its depfiles name.
 ghost use Rattle.std.specs.Prelude.{◌≡◌, ◌∷◌, ◌++◌, [], IfOk, OnOk};
-ghost use Rattle.mk_graph.specs.Numbering.{all_added};
+ghost use Rattle.mk_names.specs.Names.{all_added};
 ghost use Rattle.jb_recipe.specs.Hidden.{AreHidden, AreMore, no_hidden};
 
 use byte_strings::ByteStrings;
-use mk_graph::Names;
+use mk_names::Names;
 use std::alloc::{AllocError, Global};
 
 fn no_hidden(alloc: Global, target: &[u8], known: &ByteStrings) -> Result<Names, AllocError>

@@ -27,7 +27,6 @@ mod variables;
 pub use conduct::Conduct;
 pub use end_note::{EndNote, Last};
 pub use failing::FailedLine;
-pub use files::Files;
 pub use not_done::NotDone;
 pub use noting::{Plan, is_writable};
 pub use place::{Place, PlaceFault};

@@ -1,7 +1,7 @@
 //! What a target writes into the state, checked before anything of it is.
 ghost use Rattle.std.specs.Prelude.{◌≡◌, ◌≤◌, ◌<◌, ◌↔◌, ◌||◌, [], ◌∷◌, ◌++◌, length, codes, IfOk, IfSome, IsTrue};
 ghost use Rattle.std.proofs.Props.{props};
-ghost use Rattle.mk_graph.specs.Numbering.{name_at};
+ghost use Rattle.mk_names.specs.Names.{name_at};
 ghost use Rattle.mk_recipe.specs.Line.{Records};
 ghost use Rattle.mk_settings.specs.Marks.{has_mark};
 ghost use Rattle.mk_seen.specs.Marks.{source_name};
@@ -18,10 +18,11 @@ ghost use Rattle.jb_recipe.specs.Noting.{known_of, removes};
 ghost use Rattle.jb_recipe.specs.Places.{places_said};
 ghost use Rattle.jb_recipe.specs.Silence.{as_run};
 
+use crate::files::Files;
 use crate::places::places_said;
 use crate::said::said_in;
 use crate::silence::as_run;
-use crate::{Conduct, Files, environment};
+use crate::{Conduct, environment};
 use bd_lists::{Recipe, Variable};
 use byte_strings::{ByteString, ByteStrings};
 use mk_nodes::Graph;

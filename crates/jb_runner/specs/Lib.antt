@@ -1,4 +1,3 @@
 pub mod Earlier
 pub mod Making
-pub mod Removing
 pub mod Serving

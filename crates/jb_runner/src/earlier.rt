@@ -99,7 +99,7 @@ pub(crate) struct EndedBefore<'s, R: Wait> {
 
 impl<R: Wait> Earlier for EndedBefore<'_, R> {
     ghost use Rattle.std.specs.Prelude.{◌≡◌, true};
-    ghost use Rattle.mk_graph.specs.Numbering.{has_name};
+    ghost use Rattle.mk_names.specs.Names.{has_name};
 
     ghost said = { λ run name made. made ≡ true → has_name run.graph.now.names name ≡ true };
 

@@ -11,7 +11,6 @@ use crate::earlier::EndedBefore;
 use crate::failing::{Over, say_block, tell_end};
 use crate::making::say_lines;
 use crate::pending::Pending;
-use crate::removing::goes_if_stopped;
 use crate::shift::Shift;
 use bd_flusher::Receipt;
 use bd_links::Node;
@@ -35,6 +34,22 @@ pub(crate) struct Cleared {
     pub(crate) clearance: Clearance<Receipt>,
     pub(crate) recipe: Recipe,
     pub(crate) note: EndNote,
+}
+
+impl Cleared {
+    // The receipt again, with no recipe run: the target can only be abandoned then.
+    pub(crate) fn give_up(self) -> Receipt
+        ensures { result ≡ self.clearance.told }
+    {
+        let Self {
+            clearance,
+            recipe,
+            note,
+        } = self;
+        drop(recipe);
+        drop(note);
+        clearance.give_up()
+    }
 }
 
 fn failed_status(note: &Record) -> Option<u32> {
@@ -95,7 +110,9 @@ impl<D: Disk + Drop, E: Exec<Receipt>, S: Say, P: Place> Bench<'_, D, E, S, P> {
             say: self.say,
             target: note.target(),
             tells_failed: self.graph.macros.profile().is_wide(),
-            goes: goes_if_stopped(self.graph, note),
+            goes: self
+                .graph
+                .removes_if_stopped(note.target(), note.report().is_some()),
         };
         let slot = self.slots.acquire(rt, bank);
         let ran = run_recipe(

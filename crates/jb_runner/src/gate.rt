@@ -19,8 +19,7 @@ pub(crate) struct Gate {
     changed: Condvar,
 }
 
-/// How many workers stay of those that were started: all, if these are as many as were asked for, else half of them, and
-/// at least one.
+/// How many workers stay of those that were started: all, if these are as many as were asked for, else half of them, and at least one.
 pub(crate) fn staying(started: usize, asked: usize) -> usize {
     if started < asked {
         started - started / 2

@@ -15,7 +15,6 @@ mod making;
 mod outside;
 mod pending;
 mod pool;
-mod removing;
 mod served;
 mod serving;
 mod shift;

@@ -47,14 +47,7 @@ impl<D: Disk + Drop, E: Exec<Receipt>, S: Say, P: Place> Bench<'_, D, E, S, P> {
                 came
             }
             Err(_) => {
-                let Cleared {
-                    clearance,
-                    recipe,
-                    note,
-                } = cleared;
-                drop(recipe);
-                drop(note);
-                shift.keep(clearance.give_up());
+                shift.keep(cleared.give_up());
                 Err(RunFault::OutOfMemory)
             }
         }
@@ -62,14 +55,7 @@ impl<D: Disk + Drop, E: Exec<Receipt>, S: Say, P: Place> Bench<'_, D, E, S, P> {
 
     /// Nothing is begun any more: the node is abandoned, and its 'begun' stands.
     fn give_up<R: Wait>(&self, rt: &R, node: Node, cleared: Cleared, shift: &mut Shift) {
-        let Cleared {
-            clearance,
-            recipe,
-            note,
-        } = cleared;
-        drop(recipe);
-        drop(note);
-        shift.keep(clearance.give_up());
+        shift.keep(cleared.give_up());
         self.clerk.desk.lose(rt, node);
     }
 }

@@ -3,7 +3,7 @@ use Rattle.std.proofs.Common.{◌≡◌, ℕ, Bool, true, false, not, ◌&&◌, 
 use Rattle.std.specs.Prelude.{bytes_eq}
 use Rattle.std.proofs.lemmas.List.Folds.{list_any-append}
 use Rattle.std.proofs.Math.Seq.{drop-append_seam, take-append_seam}
-use Rattle.mk_graph.specs.Numbering.{has_name, all_added}
+use Rattle.mk_names.specs.Names.{has_name, all_added}
 use Rattle.mk_rule_lines.specs.Rules.{has}
 use Rattle.mk_rule_lines.proofs.NameLemmas.{bytes_eq-same}
 

@@ -8,7 +8,7 @@ use Rattle.std.proofs.lemmas.List.{get_or_past, ext_get_or}
 use Rattle.mk_graph.specs.Counted.{joined, counting, IsDropped}
 use Rattle.mk_graph.specs.Cycle.{HasCycle}
 use Rattle.mk_graph.specs.Edges.{row, has, is_closed}
-use Rattle.mk_graph.specs.Numbering.{name_at}
+use Rattle.mk_names.specs.Names.{name_at}
 use Rattle.mk_graph.specs.Plan.{is_ready, IsPlanAfter}
 use Rattle.mk_graph.proofs.CountedLemmas.{has-joined, HasCycle-wider, below_from_closed, length-counting}
 use Rattle.mk_graph.proofs.CycleLemmas.{closed_row}

@@ -7,8 +7,9 @@ use Rattle.std.proofs.lemmas.Bool.{and_parts, and_from, cases_lt}
 use Rattle.std.proofs.lemmas.Grind.{flat_map-append}
 use Rattle.std.proofs.lemmas.List.{take_all, take-append-le, take-append-drop}
 use Rattle.std.proofs.lemmas.List.Folds.{list_all-append, list_any-append}
-use Rattle.mk_graph.specs.Numbering.{has_name, name_at, added, all_added, IsNumbering}
-use Rattle.mk_graph.proofs.NameLemmas.{distinct_all_added, distinct_none, Begins, begins_all_added, all_added-append, same_bytes, bytes_same, new_at}
+use Rattle.mk_names.specs.Names.{has_name, name_at, added, all_added}
+use Rattle.mk_graph.specs.Numbering.{IsNumbering}
+use Rattle.mk_names.proofs.NameLemmas.{distinct_all_added, distinct_none, Begins, begins_all_added, all_added-append, same_bytes, bytes_same, new_at}
 use Rattle.mk_graph.proofs.RowLemmas.{list_all_place}
 
 pub distinct_names : (of : List ℕ → List (List ℕ)) (goals names : List (List ℕ)) → IsNumbering of goals names → IsDistinct bytes_eq names

@@ -3,7 +3,8 @@ use Rattle.std.specs.Prelude.{◌≡◌, ℕ, ◌<◌, nat_lt, ◌||◌, ◌&&�
 use Rattle.mk_graph.specs.Edges.{row, is_closed, has as has_number}
 use Rattle.mk_graph.specs.Cycle.{HasCycle}
 use Rattle.mk_graph.specs.Counted.{counting, IsDropped}
-use Rattle.mk_graph.specs.Numbering.{IsNumbering, name_at}
+use Rattle.mk_names.specs.Names.{name_at}
+use Rattle.mk_graph.specs.Numbering.{IsNumbering}
 use Rattle.mk_rule_lines.specs.Rules.{suffixes_of, has}
 use Rattle.mk_makefile.specs.Taken.{AreTaken}
 use Rattle.mk_settings.specs.Goals.{goals_of, settings_of}

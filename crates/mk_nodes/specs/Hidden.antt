@@ -1,7 +1,7 @@
 -- The hidden prerequisites of a name, taken in behind the hard ones.
 use Rattle.std.specs.Prelude.{◌≡◌, ℕ, Bool, not, ◌||◌, ◌&&◌, if◌then◌else◌, List, [], ◌∷◌, ◌++◌, length, map, drop, filter, replicate, true, false, Option, Some, None, Vec, option_map, unwrap_or}
 use Rattle.std.specs.Global.{Box, Global}
-use Rattle.mk_graph.specs.Numbering.{has_name, added, all_added}
+use Rattle.mk_names.specs.Names.{has_name, added, all_added}
 use Rattle.mk_nodes.specs.Prerequisites.{IsTextAmong}
 use Rattle.mk_rule_lines.specs.declared.fault.RuleFault.{RuleFault}
 use Rattle.mk_rule_lines.specs.declared.fault.RuleFault.TheVariants as fault

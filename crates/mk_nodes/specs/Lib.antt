@@ -7,6 +7,7 @@ pub mod Look
 pub mod Node
 pub mod Prerequisites
 pub mod Rare
+pub mod Removing
 pub mod ShortNumber
 pub mod Stamp
 pub mod Waits

@@ -1,7 +1,7 @@
 -- The numbers of names, and the parts of a node's row of hard prerequisites.
 use Rattle.std.specs.Option.{option_map_or}
 use Rattle.std.specs.Prelude.{◌≡◌, ◌<◌, ℕ, ◌==◌, if◌then◌else◌, length, take, Bool, List, [], ◌∷◌, Option, Some, None}
-use Rattle.mk_graph.specs.Numbering.{name_at}
+use Rattle.mk_names.specs.Names.{name_at}
 use Rattle.mk_nodes.specs.Hidden.{marks_kept, spread}
 use Rattle.mk_nodes.specs.declared.graph.Node.{Node}
 

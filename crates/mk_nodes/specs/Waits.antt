@@ -1,7 +1,7 @@
 -- What `.WAIT` orders (dmake manual; own: what it orders).
 use Rattle.std.specs.Prelude.{ℕ, Bool, true, false, ◌&&◌, ◌||◌, List, [], ◌∷◌, flat_map, if◌then◌else◌}
 use Rattle.std.specs.List.{list_any}
-use Rattle.mk_graph.specs.Numbering.{has_name}
+use Rattle.mk_names.specs.Names.{has_name}
 use Rattle.mk_rule_lines.specs.Explicit.{is_wait, words_by}
 use Rattle.mk_rule_lines.specs.Rules.{has, targets_by}
 use Rattle.mk_rule_lines.specs.declared.rule_line.RuleLine.{RuleLine}

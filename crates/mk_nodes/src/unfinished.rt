@@ -3,7 +3,8 @@ ghost use Rattle.std.specs.Prelude.{◌≡◌};
 ghost use Rattle.std.specs.Option.{option_copied};
 ghost use Rattle.mk_nodes.specs.Prerequisites.{is_cut, is_unfinished};
 
-use st_records::{PackedEntry, Phase};
+use st_packed::PackedEntry;
+use st_records::Phase;
 
 fn is_cut(phase: Phase) -> bool
     ensures { result ≡ is_cut phase }

@@ -1,5 +1,5 @@
 use Rattle.std.proofs.Common.{◌≡◌, ◌++◌, ℕ, List}
-use Rattle.mk_graph.specs.Numbering.{all_added}
+use Rattle.mk_names.specs.Names.{all_added}
 use Rattle.jb_recipe.proofs.hidden.add.Given as goal
 
 -- what is left adds what all do; what is new so far stands behind whatever stood in front

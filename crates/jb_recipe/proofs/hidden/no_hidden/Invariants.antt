@@ -1,5 +1,5 @@
 use Rattle.std.proofs.Common.{◌≡◌}
-use Rattle.mk_graph.specs.Numbering.{all_added}
+use Rattle.mk_names.specs.Names.{all_added}
 use Rattle.jb_recipe.specs.Hidden.{no_hidden}
 use Rattle.jb_recipe.proofs.hidden.no_hidden.Given as goal
 
