@@ -2,8 +2,8 @@
 use Rattle.std.proofs.Common.{◌≡◌, ◌⊎◌, ℕ, ◌+◌, ◌<◌, ◌≤◌, true, false, true≢false, List, [], ◌∷◌, ◌++◌, length, take, refl, sym, ap, ◌∙◌, inl, inr, below_more, arith}
 use Rattle.std.proofs.lemmas.Bool.{cases_order}
 use Rattle.std.proofs.lemmas.List.{get_or-take, length-take-le, take_more}
-use Rattle.mk_graph.specs.Numbering.{name_at, has_name, added}
-use Rattle.mk_graph.proofs.NameLemmas.{added_new, has_name_at}
+use Rattle.mk_names.specs.Names.{name_at, has_name, added}
+use Rattle.mk_names.proofs.NameLemmas.{added_new, has_name_at}
 use Rattle.bd_ledger.specs.Sheet.{AreDistinct}
 
 -- the first names were seen, and each of them was new

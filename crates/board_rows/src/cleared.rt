@@ -13,11 +13,11 @@ use std::alloc::{AllocError, Global};
 use std::cell::Cell;
 
 /// The clearance of a node, which its 'begun' with this target has.
-pub(crate) struct Cleared {
-    pub(crate) node: Node,
-    pub(crate) clearance: Clearance<Note>,
-    pub(crate) target: ByteString,
-    pub(crate) ghost own: { clearance.told.noted ≡ record_of.Begun target },
+pub struct Cleared {
+    pub node: Node,
+    pub clearance: Clearance<Note>,
+    pub target: ByteString,
+    pub ghost own: { clearance.told.noted ≡ record_of.Begun target },
 }
 
 impl Drop for Cleared {
@@ -28,7 +28,7 @@ impl Drop for Cleared {
 
 impl Cleared {
     /// Gives the clearance up. The number of the receipt's ticket.
-    pub(crate) fn give_up(self) -> usize {
+    pub fn give_up(self) -> usize {
         let Cleared {
             node: _,
             clearance,
@@ -38,7 +38,7 @@ impl Cleared {
     }
 
     /// Runs these lines, and writes what came of it.
-    pub(crate) fn run(
+    pub fn run(
         self,
         alloc: Global,
         lines: Vec<Line>,

@@ -22,9 +22,9 @@ const MANY: usize = 10_000_000;
 type Submitted<T> = Result<(Ticket, Option<Ticket>), (Record, Option<Spent<T>>)>;
 
 /// A run of a node that is yet to be handed in.
-pub(crate) struct Run<T: Drop> {
-    pub(crate) node: Node,
-    pub(crate) spent: Spent<T>,
+pub struct Run<T: Drop> {
+    pub node: Node,
+    pub spent: Spent<T>,
 }
 
 impl<T: Drop> Run<T> {
@@ -42,15 +42,15 @@ impl<T: Drop> Drop for Run<T> {
 }
 
 #[derive(Drop)]
-pub(crate) struct Desk<'a, T: Told + Drop> {
-    pub(crate) board: Board<T>,
-    pub(crate) nodes: Nodes<'a>,
-    pub(crate) runs: Vec<Run<T>>,
+pub struct Desk<'a, T: Told + Drop> {
+    pub board: Board<T>,
+    pub nodes: Nodes<'a>,
+    pub runs: Vec<Run<T>>,
 }
 
 impl<T: Told + Drop> Desk<'_, T> {
     /// Answers a call that a board takes.
-    pub(crate) fn call(
+    pub fn call(
         &mut self,
         alloc: Global,
         name: &str,
@@ -77,7 +77,7 @@ impl<T: Told + Drop> Desk<'_, T> {
     }
 
     // The calls of many clauses stand here once, without them.
-    pub(crate) fn claimed(&mut self) -> Option<Node> {
+    pub fn claimed(&mut self) -> Option<Node> {
         self.board.claim()
     }
 
@@ -119,7 +119,7 @@ impl<T: Told + Drop> Desk<'_, T> {
     }
 
     /// Submits a record. What isn't taken is written, and its run waits again.
-    pub(crate) fn hand_in(
+    pub fn hand_in(
         &mut self,
         node: Node,
         note: Record,

@@ -3,11 +3,11 @@ ghost use Rattle.std.specs.Prelude.{IsTrue, IfOk};
 ghost use Rattle.bd_ledger.specs.Sheet.{AreDistinct};
 
 use byte_strings::ByteString;
-use mk_graph::Names;
+use mk_names::Names;
 use std::alloc::{AllocError, Global};
 
 /// Whether no two of the names are alike.
-pub(crate) fn are_distinct(alloc: Global, names: &[ByteString]) -> Result<bool, AllocError>
+pub fn are_distinct(alloc: Global, names: &[ByteString]) -> Result<bool, AllocError>
     ensures { IfOk result (λ are. IsTrue are → AreDistinct names.now) }
 {
     let mut seen = Names::new(alloc);

@@ -4,7 +4,7 @@ use bd_places::End;
 use row_files::{RowFault, Words};
 use std::alloc::AllocError;
 
-pub(crate) fn read_end(words: &mut Words<'_>) -> Result<End, RowFault> {
+pub fn read_end(words: &mut Words<'_>) -> Result<End, RowFault> {
     match words.next() {
         "uptodate" => Ok(End::UpToDate),
         "remade" => Ok(End::Remade),
@@ -31,7 +31,7 @@ fn list(stand: Option<Stand>) -> &'static str {
 }
 
 /// A list, and the end of a node that has one.
-pub(crate) fn write_stand(
+pub fn write_stand(
     stand: Option<Stand>,
     end: Option<End>,
     out: &mut String,

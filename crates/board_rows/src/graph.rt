@@ -12,7 +12,7 @@ use std::alloc::{AllocError, Global};
 
 /// Hard and soft prerequisites of each node.
 #[derive(Drop)]
-pub(crate) struct Graph {
+pub struct Graph {
     hard: Vec<Vec<u32>>,
     soft: Vec<Vec<u32>>,
 }
@@ -41,7 +41,7 @@ fn row(alloc: Global, nodes: &Nodes<'_>, names: &str) -> Result<Vec<u32>, RowFau
 }
 
 impl Graph {
-    pub(crate) fn new(alloc: Global) -> Graph {
+    pub fn new(alloc: Global) -> Graph {
         Graph {
             hard: Vec::new(alloc),
             soft: Vec::new(alloc),
@@ -54,7 +54,7 @@ impl Graph {
     }
 
     /// Adds a node of a line `NAME: HARD .. | SOFT ..`, once all nodes have their labels.
-    pub(crate) fn add(&mut self, alloc: Global, nodes: &Nodes<'_>, line: &str) -> Answered {
+    pub fn add(&mut self, alloc: Global, nodes: &Nodes<'_>, line: &str) -> Answered {
         let (_name, edges) = line.split_once(':').ok_or(RowFault::Word)?;
         let (hard, soft) = edges.split_once('|').unwrap_or((edges, ""));
         self.add_rows(alloc, nodes, hard, soft)
@@ -66,7 +66,7 @@ impl Graph {
     }
 
     /// A chain of so many nodes: each waits for the next one.
-    pub(crate) fn add_chain(&mut self, alloc: Global, nodes: usize) -> Result<(), AllocError> {
+    pub fn add_chain(&mut self, alloc: Global, nodes: usize) -> Result<(), AllocError> {
         let nodes = short(nodes)?;
         for node in 0..nodes {
             let mut row = Vec::new(alloc);
@@ -79,7 +79,7 @@ impl Graph {
     }
 
     /// So many nodes that wait for each of as many others.
-    pub(crate) fn add_layers(&mut self, alloc: Global, nodes: usize) -> Result<(), AllocError> {
+    pub fn add_layers(&mut self, alloc: Global, nodes: usize) -> Result<(), AllocError> {
         let twice = short(nodes.saturating_add(nodes))?;
         let nodes = short(nodes)?;
         for node in 0..twice {
@@ -100,11 +100,7 @@ impl Graph {
     }
 
     /// The board of the graph, whose soft edges count unless they make a cycle. No two nodes may have one name.
-    pub(crate) fn board<T: Told>(
-        &self,
-        alloc: Global,
-        nodes: &Nodes<'_>,
-    ) -> Result<Board<T>, RowFault> {
+    pub fn board<T: Told>(&self, alloc: Global, nodes: &Nodes<'_>) -> Result<Board<T>, RowFault> {
         let targets = self.targets(alloc, nodes)?;
         let hard = Edges::of_rows(alloc, &self.hard)?;
         let counted = counted_with(alloc, &hard, &self.soft)?;

@@ -1,4 +1,4 @@
-//! Calls boards and sites as the rows of a text say, and tells which answers differ.
+//! Boards as rows call them: graphs of nodes that have labels, what a call answers, and what a caller keeps.
 //!
 //! cases/board/README.md has the language of rows.
 #![tactic(auto)]
@@ -12,19 +12,13 @@ mod graph;
 mod lists;
 mod nodes;
 mod note;
-mod pair;
 mod records;
 mod script;
 mod sets;
-mod setup;
-mod site_calls;
-mod store;
 mod submission;
 
-use setup::BoardSetup;
-use std::io;
-
-/// Prints which rows of a text differ, and how many. Whether none does.
-pub fn print_rows(rt: HostRuntime, file: &str, text: &str) -> io::Result<bool> {
-    row_files::print_rows::<BoardSetup>(rt, file, text)
-}
+pub use desk::Desk;
+pub use graph::Graph;
+pub use lists::Lists;
+pub use nodes::Nodes;
+pub use records::read_good;

@@ -17,9 +17,9 @@ use st_records::Record;
 use std::alloc::{AllocError, Global};
 
 #[derive(Drop)]
-pub(crate) struct Lists<'a> {
-    pub(crate) desk: Desk<'a, Note>,
-    pub(crate) clearances: Vec<Cleared>,
+pub struct Lists<'a> {
+    pub desk: Desk<'a, Note>,
+    pub clearances: Vec<Cleared>,
 }
 
 /// `NODE TICKET [as TARGET]`.

@@ -7,14 +7,14 @@ use std::alloc::{AllocError, Global};
 /// The nodes' labels in number order. A node's name is its label, or `#` and its number where it has none, and its target is
 /// that name so many times.
 #[derive(Drop)]
-pub(crate) struct Nodes<'a> {
-    pub(crate) labels: Vec<&'a str>,
-    pub(crate) times: usize,
+pub struct Nodes<'a> {
+    pub labels: Vec<&'a str>,
+    pub times: usize,
 }
 
 impl Nodes<'_> {
     /// The node of a word: a label, or `#` and a number.
-    pub(crate) fn find(&self, word: &str) -> Result<Node, RowFault> {
+    pub fn find(&self, word: &str) -> Result<Node, RowFault> {
         if let Some(digits) = word.strip_prefix("#") {
             return Ok(Node::new(number(digits)?));
         }
@@ -24,24 +24,19 @@ impl Nodes<'_> {
         }
     }
 
-    pub(crate) fn next(&self, words: &mut Words<'_>) -> Result<Node, RowFault> {
+    pub fn next(&self, words: &mut Words<'_>) -> Result<Node, RowFault> {
         self.find(words.next())
     }
 
     /// The node behind a word such as `as `, or else this one.
-    pub(crate) fn other(
-        &self,
-        words: &mut Words<'_>,
-        word: &str,
-        node: Node,
-    ) -> Result<Node, RowFault> {
+    pub fn other(&self, words: &mut Words<'_>, word: &str, node: Node) -> Result<Node, RowFault> {
         if words.skip(word) {
             return self.next(words);
         }
         Ok(node)
     }
 
-    pub(crate) fn target(&self, alloc: Global, node: Node) -> Result<ByteString, AllocError> {
+    pub fn target(&self, alloc: Global, node: Node) -> Result<ByteString, AllocError> {
         let mut name = String::new(alloc);
         self.write(node, &mut name)?;
         let mut bytes = Vec::new(alloc);
@@ -51,7 +46,7 @@ impl Nodes<'_> {
         Ok(ByteString::new(bytes))
     }
 
-    pub(crate) fn write(&self, node: Node, out: &mut String) -> Result<(), AllocError> {
+    pub fn write(&self, node: Node, out: &mut String) -> Result<(), AllocError> {
         match self.labels.get(node.number()) {
             Some(label) => out.push_str(label),
             None => write!(out, "#{}", node.number()),

@@ -3,9 +3,9 @@ use bd_ledger::Ticket;
 use bd_lists::Told;
 use st_records::Record;
 
-pub(crate) struct Note {
-    pub(crate) ticket: Ticket,
-    pub(crate) noted: Record,
+pub struct Note {
+    pub ticket: Ticket,
+    pub noted: Record,
 }
 
 impl Drop for Note {

@@ -79,7 +79,7 @@ fn read(alloc: Global, target: ByteString, words: &mut Words<'_>) -> Result<Reco
 }
 
 /// A record that a board may be handed.
-pub(crate) fn read_good(
+pub fn read_good(
     alloc: Global,
     target: ByteString,
     words: &mut Words<'_>,
@@ -94,7 +94,7 @@ pub(crate) fn read_good(
     Err(RowFault::Word)
 }
 
-pub(crate) fn write_record(note: &Record, out: &mut String) -> Result<(), AllocError> {
+pub fn write_record(note: &Record, out: &mut String) -> Result<(), AllocError> {
     let target = note.target();
     match note {
         Record::Begun { .. } => write!(out, "{target} begun"),
@@ -105,10 +105,7 @@ pub(crate) fn write_record(note: &Record, out: &mut String) -> Result<(), AllocE
 }
 
 /// Records with their tickets, as `0 a begun, 1 b failed 2`.
-pub(crate) fn write_records(
-    records: &[(Ticket, Record)],
-    out: &mut String,
-) -> Result<(), AllocError> {
+pub fn write_records(records: &[(Ticket, Record)], out: &mut String) -> Result<(), AllocError> {
     if records.is_empty() {
         return out.push_str("nothing");
     }

@@ -9,9 +9,9 @@ use std::cell::Cell;
 /// Runs nothing: a line `gone` can't be run, one `false` fails with 1, `exit N` ends with N, and any other ends well. Counts
 /// how often it is asked.
 #[derive(Drop)]
-pub(crate) struct Script {
-    pub(crate) alloc: Global,
-    pub(crate) asked: Cell<usize>,
+pub struct Script {
+    pub alloc: Global,
+    pub asked: Cell<usize>,
 }
 
 /// The status that a line ends with. None where it can't be run.
@@ -79,7 +79,7 @@ fn line(alloc: Global, text: &str) -> Result<Line, AllocError> {
 }
 
 /// The lines behind each ` $ `.
-pub(crate) fn lines(alloc: Global, text: &str) -> Result<Vec<Line>, AllocError> {
+pub fn lines(alloc: Global, text: &str) -> Result<Vec<Line>, AllocError> {
     let mut lines = Vec::new(alloc);
     if let Some(text) = text.strip_prefix("$ ") {
         push_lines(alloc, &mut lines, text)?;

@@ -11,14 +11,14 @@ use st_records::Record;
 use std::alloc::Global;
 
 /// A node's record, and the node whose run is handed in with it.
-pub(crate) struct Submission {
-    pub(crate) node: Node,
-    pub(crate) by: Node,
-    pub(crate) note: Record,
+pub struct Submission {
+    pub node: Node,
+    pub by: Node,
+    pub note: Record,
 }
 
 /// `NODE [as TARGET] [by NODE] RECORD`.
-pub(crate) fn read_submission(
+pub fn read_submission(
     alloc: Global,
     nodes: &Nodes<'_>,
     words: &mut Words<'_>,

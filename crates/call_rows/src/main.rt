@@ -27,7 +27,7 @@ fn kind_of(word: &str) -> Option<Kind> {
 fn print_rows(rt: HostRuntime, kind: Kind, file: &str, text: &str) -> io::Result<bool> {
     match kind {
         Kind::Store => store_rows::print_rows(rt, file, text),
-        Kind::Board => board_rows::print_rows(rt, file, text),
+        Kind::Board => site_rows::print_rows(rt, file, text),
     }
 }
 

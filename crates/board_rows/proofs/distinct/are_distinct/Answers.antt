@@ -1,7 +1,7 @@
 use Rattle.std.proofs.Common.{◌+◌, ◌∙◌, [], sym, subst}
 use Rattle.std.proofs.lemmas.Bool.{not-true}
 use Rattle.std.proofs.lemmas.List.{get_or_read}
-use Rattle.mk_graph.specs.Numbering.{has_name}
+use Rattle.mk_names.specs.Names.{has_name}
 use Rattle.board_rows.proofs.DistinctLemmas.{AreNew, none_seen, one_more_seen, all_differ}
 use Rattle.board_rows.proofs.distinct.are_distinct.Goals as goal
 

@@ -1,12 +1,9 @@
 //! What a row begins with.
-use crate::desk::Desk;
-use crate::graph::Graph;
-use crate::lists::Lists;
-use crate::nodes::Nodes;
 use crate::pair::Pair;
 use crate::store::{Tried, site};
 use bd_flusher::Site;
 use bd_lists::{Board, Told};
+use board_rows::{Desk, Graph, Lists, Nodes};
 use row_files::{Answered, Calls, Report, RowFault, Setup, Words, read_hex};
 use st_doubles::{FailOnce, Fuse};
 use st_memory::MemDisk;

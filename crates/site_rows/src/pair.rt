@@ -3,15 +3,13 @@ ghost use Rattle.std.specs.Prelude.{IfOk};
 ghost use Rattle.st_records.specs.Limits.{IsGood};
 ghost use Rattle.st_records.specs.declared.version.Version.TheVariants.{Two};
 
-use crate::desk::Desk;
-use crate::nodes::Nodes;
-use crate::records::read_good;
 use crate::site_calls::{flushed, looked, taken_in, tidied};
 use crate::store::{OverMemory, known_after_cuts, recovered, site, write_recovered, write_state};
 use bd_flusher::{FlushFault, Receipt, Site};
 use bd_ledger::Ticket;
 use bd_links::Node;
 use bd_lists::Board;
+use board_rows::{Desk, Nodes, read_good};
 use row_files::{Answered, RowFault, Words, World};
 use st_disk::{Disk, Which};
 use st_memory::MemDisk;
