@@ -2,7 +2,7 @@
 
 use crate::shared_syncs::SharedSyncs;
 use crate::shell::set_text;
-use crate::sights::last_tick;
+use crate::sights::{last_tick, time_now};
 use crate::stops::Stops;
 use jb_janitor::Janitor;
 use jb_recipe::{Place, PlaceFault, Stopped, Turn};
@@ -183,7 +183,7 @@ impl<'a, R: Wait> HostPlace<'a, R> {
             stops,
             turns,
             janitor,
-            began: last_tick(),
+            began: time_now(),
         }
     }
 

@@ -11,6 +11,9 @@ use std::time::Duration;
 /// clock_gettime(2): the clock of the last tick, by which Linux stamps files.
 const CLOCK_REALTIME_COARSE: i32 = 5;
 
+/// The clock by which it stamps some of them more finely, since Linux 6.13.
+const CLOCK_REALTIME: i32 = 0;
+
 /// Linux ticks each 10 ms, or more often.
 const LONGEST_WAIT: u32 = 20;
 
@@ -20,16 +23,26 @@ fn moment(seconds: i64, nanoseconds: i64) -> i128 {
     i128::from(seconds) * SECOND + i128::from(nanoseconds)
 }
 
-/// What the clock says, in nanoseconds since 1970. Where it can't be read no look counts.
-pub(crate) fn last_tick() -> i128 {
+// What a clock says, in nanoseconds since 1970. Where it can't be read no look counts.
+fn time_by(clock: i32) -> i128 {
     let mut now = libc::types::timespec {
         tv_sec: 0,
         tv_nsec: 0,
     };
-    if libc::clock_gettime(CLOCK_REALTIME_COARSE, &mut now) != 0 {
+    if libc::clock_gettime(clock, &mut now) != 0 {
         return i128::MIN;
     }
     moment(now.tv_sec, now.tv_nsec)
+}
+
+/// The time of the last tick.
+pub(crate) fn last_tick() -> i128 {
+    time_by(CLOCK_REALTIME_COARSE)
+}
+
+/// The time, which no file that was changed before has passed, however finely it was stamped.
+pub(crate) fn time_now() -> i128 {
+    time_by(CLOCK_REALTIME)
 }
 
 fn sight_of(found: &Metadata) -> Sight {
