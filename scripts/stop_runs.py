@@ -2,7 +2,8 @@
 with and without state, with one worker and with eight: python3 scripts/stop_runs.py [RUNS [PROGRAM]]
 
 Two seconds later, or SECONDS_LEFT of the environment, no process of the run may be left; dmk has ended by the signal; and the next
-run, which every other time is started soon behind it, makes each target whole and leaves nothing to do, also once all that could still be written was written.
+run, which every other time is begun at once behind it, makes each target whole and leaves nothing to do, also once all that could still
+be written was written.
 The last line is 'N passed, M failed'; the status is 1 where M isn't 0.
 """
 import concurrent.futures
@@ -103,9 +104,6 @@ def faults_of(folder, program, choice, style, kind, jobs, keeps_state):
     write(folder, "s", "new")
     if choice.random() < 0.5:
         faults += wait_for_none(folder, stopped)
-    else:
-        # On a busy machine what sees that a run is over has to get a processor first.
-        time.sleep(0.3)
     again = subprocess.run(words, cwd=folder, env=dict(variables, SLOW="0"), stdin=subprocess.DEVNULL,
                            stdout=subprocess.DEVNULL, stderr=subprocess.PIPE, text=True, timeout=60, check=False)
     if again.returncode != 0:

@@ -1,7 +1,7 @@
 //! What the janitor of a run has to know of it.
 
 use bd_lists::Variable;
-use dmk_locks::own_name;
+use dmk_locks::{own_name, presence_of};
 use dmk_reading::{Options, value_of};
 use jb_janitor::{Duty, RECIPES};
 use std::alloc::AllocError;
@@ -22,8 +22,10 @@ pub fn duty_of(
     }
     let alloc = host.alloc();
     let above = str::from_utf8(value_of(environment, RECIPES.as_bytes())).unwrap_or("");
+    let presence = presence_of(host, run.as_str());
     Ok(Some(Duty {
         run,
+        presence,
         above: String::from_str(alloc, above)?,
         state: String::from_str(alloc, options.state.as_str())?,
         draws,

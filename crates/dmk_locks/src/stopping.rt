@@ -1,5 +1,6 @@
 //! Runs that were stopped, and whose janitors are still at work.
 
+use crate::presence::is_left_here;
 use crate::run_name::is_over;
 use std::alloc::AllocError;
 use std::time::Duration;
@@ -33,9 +34,21 @@ fn names_at(rt: HostRuntime, path: &str) -> Option<Vec<u8>> {
     fs::read(&rt, path).ok()
 }
 
-/// Waits until the janitors of runs over the state of this name that were stopped are done: what these left is no good before. One that
-/// was killed isn't waited for.
+/// Waits until no run is in the current folder that is over.
+fn wait_for_those_here(rt: HostRuntime) -> Result<(), AllocError> {
+    for _ in 0..MAX_LOOKS {
+        if !is_left_here(rt)? {
+            break;
+        }
+        thread::sleep(&rt, Duration::from_millis(BETWEEN_LOOKS));
+    }
+    Ok(())
+}
+
+/// Waits until the janitors of runs that were stopped are done, in the current folder or over the state of this name: what these left is no
+/// good before. One that was killed isn't waited for. Where a janitor isn't seen to be in the folder, it is waited for once it is at work.
 pub fn wait_for_janitors(rt: HostRuntime, state: &str) -> Result<(), AllocError> {
+    wait_for_those_here(rt)?;
     let path = format!(in rt.alloc(); "{state}.stopping")?;
     for _ in 0..MAX_LOOKS {
         let Some(names) = names_at(rt, path.as_str()) else {

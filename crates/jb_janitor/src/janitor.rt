@@ -1,14 +1,15 @@
 //! Who ends the recipes under way where their run is ended from outside: a process beside it, which is told of each that begins and
 //! ends, and sees when nobody is left to tell it. So it is the same whatever ends the run.
 
-use crate::script::{JANITOR, START};
+use crate::script::{DRAWS, JANITOR, START};
 use crate::worker::worker_name;
 use std::alloc::AllocError;
+use std::fs::{self, File};
 use std::io::{self, Read, Write};
+use std::mem;
 use std::os::unix::fs::MetadataExt;
 use std::process::{Child, Command, Stdio};
 use std::sync::{Mutex, Wait};
-use std::{fs, mem};
 
 /// The variable that tells which recipes a process belongs to: of each run above the one under way, the lowest one's last.
 pub const RECIPES: &str = "DMK_RECIPES";
@@ -26,6 +27,8 @@ pub struct Duty {
     pub state: String,
     /// A status line is drawn on standard error.
     pub draws: bool,
+    /// What the run is in its folder by, as long as somebody has a handle of it.
+    pub presence: Option<File>,
 }
 
 impl Drop for Duty {
@@ -35,6 +38,7 @@ impl Drop for Duty {
             above: _,
             state: _,
             draws: _,
+            presence: _,
         } = self;
     }
 }
@@ -118,7 +122,7 @@ fn told_ended(host: HostRuntime, number: u64) -> Result<String, AllocError> {
 
 // A janitor that was started, once no signal to the run's group ends it any more.
 fn ready(mut child: Child) -> io::Result<Child> {
-    if let Some(mut told) = child.stdout.take() {
+    if let Some(mut told) = child.stderr.take() {
         let _ = told.read(&mut [0u8; 1])?;
     }
     Ok(child)
@@ -189,15 +193,15 @@ impl<'a, R: Wait> Janitor<'a, R> {
         let mut command = Command::new(self.host.alloc(), "/bin/sh")?;
         command.arg("-c")?.arg(START)?.arg(JANITOR)?;
         command.arg(duty.run.as_str())?.arg(duty.state.as_str())?;
+        command.arg(if duty.draws { DRAWS } else { "" })?;
         command.env_remove(RECIPES)?;
         command.env(JANITOR_OF, duty.above.as_str())?;
         command.stdin(Stdio::piped());
-        command.stdout(Stdio::piped());
-        if duty.draws {
-            command.stderr(Stdio::from(self.host.stderr()));
-        } else {
-            command.stderr(Stdio::null());
-        }
+        command.stdout(match &duty.presence {
+            Some(folder) => Stdio::from(folder.try_clone()?),
+            None => Stdio::null(),
+        });
+        command.stderr(Stdio::piped());
         let child = command.spawn(&self.host);
         drop(command);
         ready(child?)

@@ -1,14 +1,21 @@
 //! What a janitor does, as texts for the shell.
 
-/// Writes a line once no signal but SIGKILL ends it any more, and has the shell run its name, which is the other text, in a session of
-/// its own where there is a `setsid`, with the words behind it and with what the system says of this process: then no signal to the
-/// run's group reaches it.
+/// The word by which a janitor is told that its run draws a status line.
+pub(crate) const DRAWS: &str = "draws";
+
+/// Writes a line on standard error once no signal but SIGKILL ends it any more, and has the shell run its name, which is the other text, in a
+/// session of its own where there is a `setsid`, with the words behind it and with what the system says of this process: then no
+/// signal to the run's group reaches it. Where the run draws a status line, standard error is the run's then. Standard output is what the run is in
+/// its folder by: nobody can write there, and the shell has it until it ends.
 pub(crate) const START: &str = "\
 trap \"\" HUP INT QUIT TERM
-echo
-exec >/dev/null
+drawn=/dev/null
+[ -n \"$3\" ] && [ -w \"/proc/$PPID/fd/2\" ] && drawn=/proc/$PPID/fd/2
+exec 3>&2 2>\"$drawn\"
+echo >&3
+exec 3>&-
 read -r self </proc/self/stat
-command -v setsid && exec setsid /bin/sh -c \"$0\" dmk \"$1\" \"$2\" \"$self\"
+command -v setsid >/dev/null && exec setsid /bin/sh -c \"$0\" dmk \"$1\" \"$2\" \"$self\"
 set -- \"$1\" \"$2\" \"$self\"
 eval \"$0\"";
 
@@ -101,4 +108,4 @@ clock() {
     first= second=
     { read -r first; read -r second; } <\"$busy\"
     [ \"${first:-$name}$second\" != \"$name\" ] || rm -f -- \"$busy\"
-} 2>/dev/null";
+} >/dev/null 2>&1";
