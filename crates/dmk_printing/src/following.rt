@@ -1,7 +1,6 @@
 //! A run whose status line also tells how long it has stood.
 
 use crate::printer::Printer;
-use jb_recipe::Say;
 use std::io::Write;
 use std::sync::Wait;
 use std::thread::{Threads, join};
@@ -17,7 +16,7 @@ where
     requires { F.pre run }
     ensures { F.post run result }
 {
-    if !printer.is_followed() {
+    if !printer.draws() {
         return run();
     }
     let ((), found) = join(

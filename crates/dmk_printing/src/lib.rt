@@ -9,7 +9,6 @@ mod lending;
 mod news;
 mod printer;
 mod queue;
-mod status_line;
 mod streams;
 mod trusted;
 

@@ -5,11 +5,11 @@ ghost use Rattle.mk_eval.specs.Output.{World};
 use crate::counts::Counts;
 use crate::front::Front;
 use crate::queue::Due;
-use crate::status_line::StatusLine;
 use crate::streams::Streams;
 use crate::trusted::Trusted;
 use bd_lists::Ended;
 use dmk_messages::{Message, print_fault, print_lines, print_note};
+use dmk_status::{Shown, StatusLine, Terminal};
 use jb_closing::RunFault;
 use jb_host::{Hears, Stream};
 use jb_recipe::{News, Say, Step};
@@ -27,6 +27,8 @@ pub struct Printer<'a, R: Wait, O: Write + Drop, E: Write + Drop> {
     rt: &'a R,
     turns: &'a Turns,
     streams: Mutex<Streams<O, E>>,
+    /// The one that the status line is drawn on.
+    terminal: Option<Terminal>,
     /// Told once the run is over.
     over: Condvar,
     /// Where what recipes write is printed as it comes, one of them at a time.
@@ -39,6 +41,7 @@ impl<'a, R: Wait, O: Write + Drop, E: Write + Drop> Drop for Printer<'a, R, O, E
             rt: _,
             turns: _,
             streams: _,
+            terminal: _,
             over: _,
             front: _,
         } = self;
@@ -46,25 +49,29 @@ impl<'a, R: Wait, O: Write + Drop, E: Write + Drop> Drop for Printer<'a, R, O, E
 }
 
 impl<'a, R: Wait, O: Write + Drop, E: Write + Drop> Printer<'a, R, O, E> {
-    /// A status line is drawn on `err` where that is a terminal of so many columns, and no recipe has it alone.
+    /// What is shown of how far the run is stands on `out` in lines, and on `err` in a status line, where no recipe has the terminal alone.
     pub fn new(
         rt: &'a R,
         alloc: Global,
         turns: &'a Turns,
         out: O,
         err: E,
-        columns: Option<usize>,
+        shown: Shown,
         front: Option<Front>,
     ) -> Printer<'a, R, O, E> {
+        let Shown {
+            terminal,
+            prints_ends,
+        } = shown;
+        let status = match terminal {
+            Some(terminal) => Some(StatusLine::new(alloc, terminal.columns())),
+            None => None,
+        };
         Printer {
             rt,
             turns,
-            streams: Mutex::new(Streams::new(
-                alloc,
-                out,
-                err,
-                columns.map(|columns| StatusLine::new(alloc, columns)),
-            )),
+            streams: Mutex::new(Streams::new(alloc, out, err, status, prints_ends)),
+            terminal,
             over: Condvar::new(),
             front,
         }
@@ -76,6 +83,7 @@ impl<'a, R: Wait, O: Write + Drop, E: Write + Drop> Printer<'a, R, O, E> {
             rt: _,
             turns: _,
             streams,
+            terminal: _,
             over: _,
             front,
         } = self;
@@ -112,8 +120,23 @@ impl<'a, R: Wait, O: Write + Drop, E: Write + Drop> Printer<'a, R, O, E> {
                 return;
             }
             self.over.sleep(self.rt, seen, Duration::from_secs(1));
-            self.streams.lock(self.rt).tick();
+            let columns = self.columns_now();
+            self.streams.lock(self.rt).tick(columns);
         }
+    }
+
+    /// How many columns the status line may take now. The terminal is asked only where it stands there.
+    fn columns_now(&self) -> Option<usize> {
+        let terminal = self.terminal?;
+        if !self.streams.lock(self.rt).shows_status() {
+            return None;
+        }
+        Some(terminal.columns())
+    }
+
+    /// Whether a status line is drawn.
+    pub fn draws(&self) -> bool {
+        self.terminal.is_some()
     }
 
     fn is_over(&self) -> bool {
@@ -284,7 +307,7 @@ impl<R: Wait, O: Write + Drop, E: Write + Drop> Say for Printer<'_, R, O, E> {
     }
 
     fn is_followed(&self) -> bool {
-        self.streams.lock(self.rt).status.is_some()
+        self.draws() || self.streams.lock(self.rt).prints_ends
     }
 
     fn step(&self, step: Step<'_>) {

@@ -2,10 +2,10 @@
 
 use crate::counts::{Counts, write_counts};
 use crate::news::{is_failure, write_failure, write_fault, write_goal, write_news};
-use crate::status_line::StatusLine;
 use bd_lists::Ended;
+use dmk_status::{Progress, StatusLine, write_end};
 use jb_recipe::{News, Step};
-use mk_graph::Names;
+use mk_names::Names;
 use mk_rule_lines::{RuleFault, Unmade};
 use plain_text::Plain;
 use std::alloc::Global;
@@ -25,8 +25,11 @@ pub(crate) struct Streams<O: Write + Drop, E: Write + Drop> {
     /// What was printed last on each of them ends its line.
     ends_out: bool,
     ends_err: bool,
+    progress: Progress,
     /// Where standard error is a terminal that shows one.
-    pub(crate) status: Option<StatusLine>,
+    status: Option<StatusLine>,
+    /// Each recipe that ends has a line on standard output.
+    pub(crate) prints_ends: bool,
     /// How many lines that run now write on both themselves.
     lent: usize,
     /// The run is over.
@@ -49,7 +52,9 @@ impl<O: Write + Drop, E: Write + Drop> Drop for Streams<O, E> {
             counts: _,
             ends_out: _,
             ends_err: _,
+            progress: _,
             status: _,
+            prints_ends: _,
             lent: _,
             is_over: _,
             told_unreported: _,
@@ -98,7 +103,13 @@ fn ends_line(before: bool, bytes: &[u8]) -> bool {
 }
 
 impl<O: Write + Drop, E: Write + Drop> Streams<O, E> {
-    pub(crate) fn new(alloc: Global, out: O, err: E, status: Option<StatusLine>) -> Streams<O, E> {
+    pub(crate) fn new(
+        alloc: Global,
+        out: O,
+        err: E,
+        status: Option<StatusLine>,
+        prints_ends: bool,
+    ) -> Streams<O, E> {
         Streams {
             out,
             err,
@@ -108,7 +119,9 @@ impl<O: Write + Drop, E: Write + Drop> Streams<O, E> {
             counts: Counts::none(),
             ends_out: true,
             ends_err: true,
+            progress: Progress::none(),
             status,
+            prints_ends,
             lent: 0,
             is_over: false,
             told_unreported: false,
@@ -128,7 +141,9 @@ impl<O: Write + Drop, E: Write + Drop> Streams<O, E> {
             counts: _,
             ends_out: _,
             ends_err: _,
+            progress: _,
             status: _,
+            prints_ends: _,
             lent: _,
             is_over: _,
             told_unreported: _,
@@ -152,24 +167,46 @@ impl<O: Write + Drop, E: Write + Drop> Streams<O, E> {
             return;
         }
         if let Some(status) = &mut self.status {
-            status.draw(&mut self.err);
+            status.draw(&mut self.err, self.progress);
         }
     }
 
     /// The run is a step further. That a recipe begins shows with its first line.
     pub(crate) fn step(&mut self, step: Step<'_>) {
+        self.progress.go_on(step);
         if let Some(status) = &mut self.status {
             status.go_on(step);
         }
-        if matches!(step, Step::Runs(_) | Step::Ends(_, _)) {
-            self.draw_status();
+        match step {
+            Step::Ends(target, _) if self.prints_ends => self.print_end(target),
+            Step::Runs(_) | Step::Ends(_, _) => self.draw_status(),
+            _ => {}
         }
     }
 
-    /// A second has passed.
-    pub(crate) fn tick(&mut self) {
+    /// Prints that the recipe of this target has ended.
+    fn print_end(&mut self, target: &[u8]) {
+        self.go_on();
+        self.make_way();
+        if write_end(&mut Plain::over(&mut self.out), self.progress, target).is_err() {
+            self.is_whole = false;
+        }
+        self.ends_out = true;
+        self.draw_status();
+    }
+
+    /// Whether the status line stands on the terminal.
+    pub(crate) fn shows_status(&self) -> bool {
+        match &self.status {
+            Some(status) => status.is_drawn(),
+            None => false,
+        }
+    }
+
+    /// A second has passed, and the terminal has so many columns where that was asked.
+    pub(crate) fn tick(&mut self, columns: Option<usize>) {
         if let Some(status) = &mut self.status {
-            status.tick();
+            status.tick(columns);
         }
         self.draw_status();
     }

@@ -1,5 +1,6 @@
 //! The line that says how far a run is, on a terminal: it is drawn in place, and gives way to all else that is printed.
 
+use crate::progress::Progress;
 use jb_recipe::Step;
 use std::alloc::{AllocError, Global};
 use std::io::Write;
@@ -8,13 +9,10 @@ use std::io::Write;
 const CLEARED: &[u8] = b"\r\x1b[K";
 
 /// How far a run is, in one line: how many recipes have ended of all that are to be run, and the line that was begun last.
-pub(crate) struct StatusLine {
+pub struct StatusLine {
     alloc: Global,
     /// How many columns of the terminal it may take.
     columns: usize,
-    planned: usize,
-    ended: usize,
-    running: usize,
     /// The line of a recipe that was begun last.
     text: String,
     /// For how many seconds the run has stood as it does, as they were counted.
@@ -30,9 +28,6 @@ impl Drop for StatusLine {
         let StatusLine {
             alloc: _,
             columns: _,
-            planned: _,
-            ended: _,
-            running: _,
             text: _,
             seconds: _,
             is_wanted: _,
@@ -60,13 +55,11 @@ fn push_front(line: &mut String, text: &str, columns: usize) -> Result<(), Alloc
 }
 
 impl StatusLine {
-    pub(crate) fn new(alloc: Global, columns: usize) -> StatusLine {
+    /// Nothing is drawn yet.
+    pub fn new(alloc: Global, columns: usize) -> StatusLine {
         StatusLine {
             alloc,
             columns,
-            planned: 0,
-            ended: 0,
-            running: 0,
             text: String::new(alloc),
             seconds: 0,
             is_wanted: false,
@@ -75,38 +68,37 @@ impl StatusLine {
     }
 
     /// The run is a step further.
-    pub(crate) fn go_on(&mut self, step: Step<'_>) {
+    pub fn go_on(&mut self, step: Step<'_>) {
         self.seconds = 0;
         match step {
-            Step::Planned(planned) => self.planned = self.ended.saturating_add(planned),
-            Step::Begins(_) => {
-                self.running = self.running.saturating_add(1);
-                self.is_wanted = true;
-            }
+            Step::Begins(_) => self.is_wanted = true,
             Step::Runs(text) => {
                 if let Ok(text) = String::from_utf8_lossy(self.alloc, text) {
                     self.text = text;
                 }
             }
-            Step::Ends(_, _) => {
-                self.running = self.running.saturating_sub(1);
-                self.ended = self.ended.saturating_add(1);
-            }
+            Step::Planned(_) | Step::Ends(_, _) => {}
         }
     }
 
-    /// A second has passed.
-    pub(crate) fn tick(&mut self) {
+    /// A second has passed. The terminal may have another width since then.
+    pub fn tick(&mut self, columns: Option<usize>) {
         self.seconds = self.seconds.saturating_add(1);
+        self.columns = columns.unwrap_or(self.columns);
+    }
+
+    /// Whether it stands on the terminal.
+    pub fn is_drawn(&self) -> bool {
+        self.is_drawn
     }
 
     /// The run is over.
-    pub(crate) fn end(&mut self) {
+    pub fn end(&mut self) {
         self.is_wanted = false;
     }
 
     /// It gives way to what is printed next.
-    pub(crate) fn clear<E: Write>(&mut self, err: &mut E) {
+    pub fn clear<E: Write>(&mut self, err: &mut E) {
         if self.is_drawn {
             let _ = err.write_all(CLEARED);
             let _ = err.flush();
@@ -115,11 +107,11 @@ impl StatusLine {
     }
 
     /// Draws it in the place of what was drawn before. A terminal that doesn't take it has none.
-    pub(crate) fn draw<E: Write>(&mut self, err: &mut E) {
+    pub fn draw<E: Write>(&mut self, err: &mut E, progress: Progress) {
         if !self.is_wanted {
             return;
         }
-        if let Ok(line) = self.line() {
+        if let Ok(line) = self.line(progress) {
             let _ = write!(err, "\r{line}\x1b[K");
             let _ = err.flush();
             self.is_drawn = true;
@@ -127,10 +119,10 @@ impl StatusLine {
     }
 
     // Where even the counts have no room, nothing is shown.
-    fn line(&self) -> Result<String, AllocError> {
-        let all = self.planned.max(self.ended.saturating_add(self.running));
-        let mut line = format!(in self.alloc; "[{}/{all}] ", self.ended)?;
-        let behind = self.behind()?;
+    fn line(&self, progress: Progress) -> Result<String, AllocError> {
+        let all = progress.all();
+        let mut line = format!(in self.alloc; "[{}/{all}] ", progress.ended)?;
+        let behind = self.behind(progress.running)?;
         let taken = line.len().saturating_add(behind.len());
         match self.columns.checked_sub(taken) {
             Some(left) => {
@@ -144,14 +136,14 @@ impl StatusLine {
 
     // How many recipes run, where that is more than the one that is shown, and for how long they have, where that is more than
     // a moment.
-    fn behind(&self) -> Result<String, AllocError> {
+    fn behind(&self, running: usize) -> Result<String, AllocError> {
         let lasts = self.seconds > 1;
-        match self.running {
+        match running {
             0 => Ok(String::new(self.alloc)),
             1 if lasts => format!(in self.alloc; " ({} s)", self.seconds),
             1 => Ok(String::new(self.alloc)),
-            _ if lasts => format!(in self.alloc; " ({} run, {} s)", self.running, self.seconds),
-            _ => format!(in self.alloc; " ({} run)", self.running),
+            _ if lasts => format!(in self.alloc; " ({running} run, {} s)", self.seconds),
+            _ => format!(in self.alloc; " ({running} run)"),
         }
     }
 }
