@@ -3,8 +3,8 @@ use Rattle.std.proofs.Common.{◌≡◌, true≢false, ℕ, zero, suc, ◌<◌, 
 use Rattle.std.specs.Prelude.{bytes_eq}
 use Rattle.std.specs.List.{IsDistinct}
 use Rattle.std.proofs.lemmas.Map.Keys.{IsDistinct-tail}
-use Rattle.mk_graph.specs.Numbering.{name_at, has_name}
-use Rattle.mk_graph.proofs.NameLemmas.{same_bytes, bytes_same, new_at}
+use Rattle.mk_names.specs.Names.{name_at, has_name}
+use Rattle.mk_names.proofs.NameLemmas.{same_bytes, bytes_same, new_at}
 use Rattle.dmk_files.specs.Stamps.{told_of}
 use Rattle.mk_nodes.specs.declared.file_look.FileLook.{FileLook}
 

@@ -2,9 +2,8 @@
 use Rattle.std.proofs.Common.{◌≡◌, ℕ, ◌<◌, ◌≤◌, Bool, true, false, ◌||◌, cond, List, [], ◌∷◌, ◌++◌, length, length-append, None, inl, inr, ◌⊎◌, refl, sym, ap, subst, ◌∙◌, arith}
 use Rattle.std.specs.Prelude.{Result, Ok, Err, OnErr}
 use Rattle.std.specs.Str.{bytes_eq}
-use Rattle.mk_graph.specs.Numbering.{name_at, has_name, added, all_added}
-use Rattle.mk_graph.proofs.NameLemmas.{added_new, all_added-append, begins_added, begins_all_added, bytes_same, same_bytes, has_name_at, length_from_begins, name_at-begins}
-use Rattle.mk_rule_lines.proofs.AddedLemmas.{has_all_added}
+use Rattle.mk_names.specs.Names.{name_at, has_name, added, all_added}
+use Rattle.mk_names.proofs.NameLemmas.{added_new, all_added-append, begins_added, begins_all_added, bytes_same, same_bytes, has_name_at, length_from_begins, name_at-begins, has_all_added}
 use Rattle.dmk_files.specs.Stamps.{Known, names_of, known_stamp, told_of}
 use Rattle.dmk_files.proofs.KnownLemmas.{Told, told_behind, told_longer, told_none, told_last}
 

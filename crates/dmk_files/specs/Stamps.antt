@@ -1,7 +1,7 @@
 -- The looks at files that are known so far.
 use Rattle.std.specs.Prelude.{◌≡◌, ℕ, List, [], ◌∷◌, length, Option, Some, None, IfSome, bytes_eq, if◌then◌else◌}
 use Rattle.std.specs.List.{IsDistinct}
-use Rattle.mk_graph.specs.Numbering.{all_added}
+use Rattle.mk_names.specs.Names.{all_added}
 use Rattle.mk_nodes.specs.declared.file_look.FileLook.{FileLook}
 
 -- names that are found, names that were listed since, and what was told of each by its number, where something was

@@ -12,7 +12,7 @@ use crate::texts::Texts;
 use bd_lists::Variable;
 use byte_strings::ByteStrings;
 use mk_eval::Includes;
-use mk_macros::Rank;
+use mk_macros::{Macros, Rank};
 use mk_notes::Notes;
 use mk_profile::Profile;
 use mk_reader::Statement;
@@ -52,6 +52,8 @@ pub struct FileTexts<C: FileCalls + Drop> {
     notes: Notes,
     /// What is defined next before a makefile is read.
     rank: Rank,
+    /// What is defined before, where macros are asked for that nothing defines.
+    above: Option<Macros>,
 }
 
 impl<C: FileCalls + Drop> Drop for FileTexts<C> {
@@ -64,6 +66,7 @@ impl<C: FileCalls + Drop> Drop for FileTexts<C> {
             unread: _,
             notes: _,
             rank: _,
+            above: _,
         } = self;
     }
 }
@@ -160,6 +163,7 @@ impl<C: FileCalls + Drop> FileTexts<C> {
             unread: None,
             notes: Notes::new(alloc),
             rank: Rank::CommandLine,
+            above: None,
         }
     }
 
@@ -191,7 +195,18 @@ impl<C: FileCalls + Drop> FileTexts<C> {
         for note in self.notes.fronts.notes()?.iter() {
             lines.push(format!(in alloc; "{note}")?.as_bytes())?;
         }
+        if let Some(above) = &self.above {
+            for line in self.notes.undefined_lines(alloc, above)?.iter() {
+                lines.push(line)?;
+            }
+        }
         Ok(lines)
+    }
+
+    /// Asks for the macros that makefiles refer to and that nothing defines, where this is defined before.
+    pub fn ask_undefined(&mut self, alloc: Global, above: Macros) {
+        self.notes.ask_undefined(alloc);
+        self.above = Some(above);
     }
 
     /// Takes in what is defined before a makefile is read: the command line's definitions first, and then the environment's.
@@ -300,6 +315,7 @@ impl<C: FileCalls + Drop> Includes for FileTexts<C> {
         self.notes.found = Vec::new(alloc);
         self.notes.leading = Vec::new(alloc);
         self.notes.fronts.forget_lines();
+        self.above = None;
         Ok(lines)
     }
 

@@ -1,7 +1,7 @@
 //! Looks at files by the system's calls, one a name.
 ghost use Rattle.std.specs.Prelude.{◌≡◌, ◌<◌, ◌⊎◌, ℕ, length, true, false, List, Option, None, IfOk, IfErr, IsOk, IsErr, IsSome};
 ghost use Rattle.std.specs.IoError.{error_kind};
-ghost use Rattle.mk_graph.specs.Numbering.{name_at, has_name};
+ghost use Rattle.mk_names.specs.Names.{name_at, has_name};
 ghost use Rattle.dmk_files.specs.Stamps.{names_of, known_stamp, AgreesWith};
 ghost use Rattle.mk_sources.specs.Tree.{IsTreeFault};
 ghost use Rattle.dmk_files.specs.Files.{IsMissing, look_of};

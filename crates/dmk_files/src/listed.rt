@@ -1,7 +1,7 @@
 //! Names in the order in which they came, which nobody looks for.
 ghost use Rattle.std.specs.Prelude.{◌≡◌, ◌<◌, ◌≤◌, ◌+◌, [], ◌∷◌, ◌++◌, length, OnOk, OnErr, slice_index, slice_index_or, vec_len, vec_capacity};
 
-use mk_graph::with_room;
+use mk_names::with_room;
 use std::alloc::{AllocError, Global};
 use std::marker::Model;
 

@@ -2,12 +2,12 @@
 ghost use Rattle.std.specs.Prelude.{◌≡◌, ℕ, ◌<◌, ◌⊎◌, List, [], None, length, true, false, is_some, IfOk, IfSome, OnOk, OnErr};
 ghost use Rattle.std.specs.List.{IsDistinct};
 ghost use Rattle.std.specs.Str.{bytes_eq};
-ghost use Rattle.mk_graph.specs.Numbering.{name_at, has_name, all_added};
+ghost use Rattle.mk_names.specs.Names.{name_at, has_name, all_added};
 ghost use Rattle.dmk_files.specs.Stamps.{names_of, told_of, known_stamp, Adds, KnowsTheSame};
 
 use crate::listed::{Listed, make_room};
 use crate::told::Told;
-use mk_graph::Names;
+use mk_names::Names;
 use mk_nodes::FileLook;
 use std::alloc::{AllocError, Global};
 use std::marker::Model;

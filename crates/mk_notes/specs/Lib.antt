@@ -4,3 +4,4 @@ pub mod Names
 pub mod Notes
 pub mod References
 pub mod Statements
+pub mod Undefined

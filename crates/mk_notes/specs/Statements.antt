@@ -148,3 +148,4 @@ counts suffixes defined (subject.PlainTarget name) = true
 counts suffixes defined (subject.Target name) = true
 counts suffixes defined (subject.Leading name prefix) = true
 counts suffixes defined (subject.BuiltIn name) = true
+counts suffixes defined (subject.Undefined name) = true

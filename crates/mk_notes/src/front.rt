@@ -50,7 +50,7 @@ fn single(text: &[u8]) -> (&[u8], &[u8])
     }
 }
 
-fn referred_behind(behind: &[u8]) -> Option<(&[u8], &[u8])>
+pub(crate) fn referred_behind(behind: &[u8]) -> Option<(&[u8], &[u8])>
     ensures { option_map (λ parts. (parts.0.now, parts.1.now)) result ≡ referred_behind behind.now }
 {
     let (first, inner) = behind.split_first()?;

@@ -10,6 +10,7 @@ mod note;
 mod notes;
 mod references;
 mod statements;
+mod undefined;
 
 pub use names::is_macro_elsewhere;
 pub use note::Subject;

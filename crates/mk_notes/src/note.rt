@@ -19,6 +19,8 @@ pub enum Subject {
     Leading(ByteString, u8),
     /// A macro that GNU make has a value for before a makefile is read.
     BuiltIn(ByteString),
+    /// A macro that is referred to.
+    Undefined(ByteString),
 }
 
 impl fmt::Display for Subject {
@@ -50,6 +52,7 @@ impl fmt::Display for Subject {
                 )
             }
             Subject::BuiltIn(name) => write!(f, "{name} is built in with GNU make, and empty here"),
+            Subject::Undefined(name) => write!(f, "{name} is defined nowhere"),
         }
     }
 }

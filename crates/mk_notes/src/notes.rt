@@ -5,6 +5,7 @@ ghost use Rattle.mk_notes.specs.Notes.{is_same, noted};
 
 use crate::fronts::Fronts;
 use crate::note::{Note, Subject};
+use crate::undefined::Referred;
 use byte_strings::{ByteString, ByteStrings};
 use std::alloc::{AllocError, Global};
 
@@ -23,6 +24,8 @@ pub struct Notes {
     pub leading: Vec<Note>,
     /// What recipe lines of the strict profile begin with.
     pub fronts: Fronts,
+    /// The macros that are referred to, where those are asked for that nothing defines.
+    pub referred: Option<Referred>,
 }
 
 /// Whether one note serves for both.
@@ -55,6 +58,7 @@ impl Notes {
             names: ByteStrings::empty(alloc),
             leading: Vec::new(alloc),
             fronts: Fronts::new(alloc),
+            referred: None,
         }
     }
 

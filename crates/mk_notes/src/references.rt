@@ -144,6 +144,7 @@ impl Notes {
             if is_behind && *byte != b'$' {
                 self.note_reference(alloc, profile, file, line, *byte, after)?;
                 self.see_of_run(alloc, profile, file, line, rest)?;
+                self.see_referred(alloc, file, line, rest)?;
             }
             is_behind = *byte == b'$' && !is_behind;
             rest = after;

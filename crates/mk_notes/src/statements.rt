@@ -344,7 +344,8 @@ impl Notes {
             Subject::PlainTarget(_)
             | Subject::Target(_)
             | Subject::Leading(_, _)
-            | Subject::BuiltIn(_) => true,
+            | Subject::BuiltIn(_)
+            | Subject::Undefined(_) => true,
         }
     }
 }

@@ -1,8 +1,8 @@
 use Rattle.std.proofs.Common.{◌≡◌, ◌<◌, ◌≤◌, ℕ, List, [], ◌∷◌, ◌++◌, length, sym, ap, subst, ◌∙◌, arith}
 use Rattle.std.specs.List.{IsDistinct}
 use Rattle.std.specs.Str.{bytes_eq}
-use Rattle.mk_graph.specs.Numbering.{added, name_at}
-use Rattle.mk_graph.proofs.NameLemmas.{distinct_all_added}
+use Rattle.mk_names.specs.Names.{added, name_at}
+use Rattle.mk_names.proofs.NameLemmas.{distinct_all_added}
 use Rattle.dmk_files.specs.Stamps.{told_of}
 use Rattle.dmk_files.proofs.KnownLemmas.{Told}
 use Rattle.dmk_files.proofs.ListedLemmas.{stays_at, grows_at, told_new, as_many_new}

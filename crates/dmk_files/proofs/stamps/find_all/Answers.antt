@@ -2,8 +2,8 @@ use Rattle.std.proofs.Common.{◌≡◌, ◌<◌, ℕ, List, [], ◌∷◌, leng
 use Rattle.std.proofs.lemmas.List.{take-append-drop, take_all, take_more}
 use Rattle.std.specs.List.{IsDistinct}
 use Rattle.std.specs.Str.{bytes_eq}
-use Rattle.mk_graph.specs.Numbering.{all_added, name_at}
-use Rattle.mk_graph.proofs.NameLemmas.{all_added-append, distinct_all_added}
+use Rattle.mk_names.specs.Names.{all_added, name_at}
+use Rattle.mk_names.proofs.NameLemmas.{all_added-append, distinct_all_added}
 use Rattle.dmk_files.proofs.ListedLemmas.{of_error, rest_alike}
 use Rattle.dmk_files.proofs.stamps.find_all.Goals as goal
 

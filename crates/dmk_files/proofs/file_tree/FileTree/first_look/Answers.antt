@@ -1,5 +1,5 @@
 use Rattle.std.proofs.Common.{◌≡◌, true, ℕ, List, inl, refl, sym, subst}
-use Rattle.mk_graph.specs.Numbering.{has_name}
+use Rattle.mk_names.specs.Names.{has_name}
 use Rattle.dmk_files.specs.Stamps.{known_stamp}
 use Rattle.dmk_files.proofs.ListedLemmas.{nothing_known}
 use Rattle.dmk_files.proofs.StampLemmas.{unknown_before}

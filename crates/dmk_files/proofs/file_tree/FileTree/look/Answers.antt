@@ -1,5 +1,5 @@
 use Rattle.std.proofs.Common.{◌≡◌, true, ℕ, IsSome, List, Option, sym, ap, subst}
-use Rattle.mk_graph.specs.Numbering.{has_name}
+use Rattle.mk_names.specs.Names.{has_name}
 use Rattle.dmk_files.specs.Stamps.{known_stamp}
 use Rattle.dmk_files.proofs.StampLemmas.{fits_alike}
 use Rattle.mk_nodes.specs.declared.file_look.FileLook.{FileLook}

@@ -1,5 +1,5 @@
 use Rattle.std.proofs.Common.{◌≡◌, true≢false, true, ℕ, List, sym, subst}
-use Rattle.mk_graph.specs.Numbering.{has_name}
+use Rattle.mk_names.specs.Names.{has_name}
 use Rattle.mk_rule_lines.proofs.ResultLemmas.{on_ok}
 use Rattle.dmk_files.specs.Stamps.{known_stamp}
 use Rattle.dmk_files.proofs.StampLemmas.{fits_alike}

@@ -1,6 +1,6 @@
 use Rattle.std.proofs.Common.{◌≡◌, ◌<◌, ◌∷◌, length, get_or, ap, rules, arith}
 use Rattle.byte_strings.proofs.PieceLemmas.{length-pieces}
-use Rattle.mk_graph.proofs.EdgeLemmas.{row_at}
+use Rattle.mk_names.proofs.TextLemmas.{row_at}
 use Rattle.dmk_files.proofs.listed.Listed.name.Goals as goal
 
 pub start_of-start-requires : goal.start_of-start-requires

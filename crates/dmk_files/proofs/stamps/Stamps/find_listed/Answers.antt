@@ -1,5 +1,5 @@
 use Rattle.std.proofs.Common.{◌≡◌, true≢false, true, ℕ, List, length, sym, ap, subst, ◌∙◌}
-use Rattle.mk_graph.specs.Numbering.{has_name, all_added}
+use Rattle.mk_names.specs.Names.{has_name, all_added}
 use Rattle.dmk_files.specs.Stamps.{Known, known_stamp, told_of}
 use Rattle.dmk_files.proofs.stamps.Stamps.find_listed.Goals as goal
 

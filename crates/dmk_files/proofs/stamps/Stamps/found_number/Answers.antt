@@ -1,5 +1,5 @@
 use Rattle.std.proofs.Common.{◌≡◌, ◌<◌, length, ap, subst, ◌∙◌}
-use Rattle.mk_graph.specs.Numbering.{name_at, has_name}
+use Rattle.mk_names.specs.Names.{name_at, has_name}
 use Rattle.dmk_files.specs.Stamps.{Known, names_of}
 use Rattle.dmk_files.proofs.ListedLemmas.{among_all}
 use Rattle.dmk_files.proofs.stamps.Stamps.found_number.Goals as goal

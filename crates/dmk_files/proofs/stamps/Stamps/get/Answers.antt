@@ -1,7 +1,7 @@
 use Rattle.std.proofs.Common.{◌<◌, ℕ, List, None, length, sym, ap, ◌∙◌, arith, rules}
 use Rattle.std.proofs.lemmas.List.{get_or_default}
-use Rattle.mk_graph.specs.Numbering.{name_at, all_added}
-use Rattle.mk_graph.proofs.NameLemmas.{distinct_all_added}
+use Rattle.mk_names.specs.Names.{name_at, all_added}
+use Rattle.mk_names.proofs.NameLemmas.{distinct_all_added}
 use Rattle.dmk_files.specs.Stamps.{Known, names_of, known_stamp}
 use Rattle.dmk_files.proofs.KnownLemmas.{Told, told_at}
 use Rattle.dmk_files.proofs.stamps.Stamps.get.Goals as goal

@@ -1,6 +1,6 @@
 use Rattle.std.proofs.Common.{◌≡◌, true, false, ℕ, List, Some, [], ◌∷◌, ◌++◌, cond, length, sym, ap, subst, ◌∙◌}
 use Rattle.std.specs.Prelude.{bytes_eq}
-use Rattle.mk_graph.specs.Numbering.{has_name, all_added}
+use Rattle.mk_names.specs.Names.{has_name, all_added}
 use Rattle.dmk_files.specs.Stamps.{Known, KnowsTheSame, known_stamp, told_of}
 use Rattle.dmk_files.proofs.KnownLemmas.{Told}
 use Rattle.dmk_files.proofs.ListedLemmas.{of_error, as_many_new, listed_last, listed_told, listed_of}

@@ -1,5 +1,5 @@
 use Rattle.std.proofs.Common.{length, ap}
-use Rattle.mk_graph.proofs.NameLemmas.{distinct_none}
+use Rattle.mk_names.proofs.NameLemmas.{distinct_none}
 use Rattle.dmk_files.proofs.stamps.Stamps.new.Goals as goal
 
 pub invariant_of-result : goal.invariant_of-result

@@ -1,6 +1,6 @@
 use Rattle.std.proofs.Common.{◌≡◌, ◌<◌, true≢false, true, ℕ, List, length, sym, ap, subst, ◌∙◌}
 use Rattle.std.specs.Prelude.{IfOk}
-use Rattle.mk_graph.specs.Numbering.{name_at, has_name, all_added}
+use Rattle.mk_names.specs.Names.{name_at, has_name, all_added}
 use Rattle.dmk_files.specs.Stamps.{Known, known_stamp, told_of}
 use Rattle.dmk_files.proofs.stamps.Stamps.numbered.Goals as goal
 

@@ -1,7 +1,7 @@
 use Rattle.std.proofs.Common.{◌<◌, ℕ, List, Some, cond, length, length-set, ap, ◌∙◌, arith}
 use Rattle.std.specs.Prelude.{bytes_eq}
-use Rattle.mk_graph.specs.Numbering.{name_at, all_added}
-use Rattle.mk_graph.proofs.NameLemmas.{distinct_all_added}
+use Rattle.mk_names.specs.Names.{name_at, all_added}
+use Rattle.mk_names.proofs.NameLemmas.{distinct_all_added}
 use Rattle.dmk_files.specs.Stamps.{Known, names_of, known_stamp, told_of}
 use Rattle.dmk_files.proofs.KnownLemmas.{Told, told_set}
 use Rattle.dmk_files.proofs.stamps.Stamps.set.Goals as goal
