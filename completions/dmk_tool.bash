@@ -13,11 +13,13 @@ _dmk_tool() {
     case $before,$word,$question in
         --state,*) mapfile -t COMPREPLY < <(compgen -f -- "$word") ;;
         --depth,*) ;;
+        *,-*,targets) mapfile -t COMPREPLY < <(compgen -W '--stale --state --help' -- "$word") ;;
+        *,-*,list) mapfile -t COMPREPLY < <(compgen -W '--json --state --help' -- "$word") ;;
         *,-*,compdb) mapfile -t COMPREPLY < <(compgen -W '--all --state --help' -- "$word") ;;
         *,-*,graph) mapfile -t COMPREPLY < <(compgen -W '--depth --hidden --state --help' -- "$word") ;;
         *,-*,*) mapfile -t COMPREPLY < <(compgen -W '--state --help --version' -- "$word") ;;
-        *,) mapfile -t COMPREPLY < <(compgen -W 'targets commands hidden query compdb graph help' -- "$word") ;;
-        *,commands | *,hidden | *,query | *,graph)
+        *,) mapfile -t COMPREPLY < <(compgen -W 'targets commands hidden query why compdb list graph help' -- "$word") ;;
+        *,commands | *,hidden | *,query | *,why | *,graph)
             mapfile -t COMPREPLY < <(dmk_tool targets --state "$state" 2>/dev/null | cut -f 2- | grep "^$word") ;;
     esac
 }

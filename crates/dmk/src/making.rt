@@ -7,23 +7,25 @@ use crate::duty::duty_of;
 use crate::state_lock::{LockPlace, StateLock};
 use bd_flusher::Receipt;
 use bd_lists::{Exec, Variable};
+use byte_strings::ByteStrings;
 use dmk_files::{FileTexts, FileTree};
 use dmk_host::{
-    HostFiles, Patient, PoolPath, TrustedPlace, base_asked, beside_recipes, buffered, locks_above,
-    needs_usual_makefile, print_gnu_makefile, print_notes, print_reasons, reports_path,
-    status_columns, streams_are_one, with_patience,
+    HostFiles, IncludeFolders, Patient, PoolPath, TrustedPlace, base_asked, beside_recipes,
+    buffered, draws_status, locks_above, needs_usual_makefile, print_gnu_makefile, print_notes,
+    print_reasons, prints_to_log, reports_path, streams_are_one, tell_definitions, with_patience,
 };
 use dmk_locks::wait_for_janitors;
 use dmk_printing::{Front, Lending, Printer, followed};
 use dmk_reading::{Options, value_of};
 use dmk_run::{Means, build_targets};
+use dmk_status::{Shown, Terminal};
 use dmk_store::{Looks, Machine};
 use dmk_trust::trust_files;
 use dmk_words::{Later, handed_on};
 use jb_flags::{Handed, Handing};
 use jb_host::{BeforeLines, Hears, HostPlace, Sharing, Shell, Stops, Writes};
 use jb_janitor::Janitor;
-use jb_recipe::{Place, Say};
+use jb_recipe::Place;
 use jb_slots::{FifoBank, FifoBanks};
 use jb_turns::Turns;
 use st_disk::{Disk, FileDisk, SystemFolder};
@@ -53,7 +55,7 @@ impl<'r, 'f, 'l, R: Threads + Wait + Sync> Machine for HostMachine<'r, 'f, 'l, R
 
     type Tree = FileTree<HostFiles<'f>>;
 
-    type Looks = HostLooks;
+    type Looks = HostLooks<'f>;
 
     type Includes = FileTexts<HostFiles<'f>>;
 
@@ -74,17 +76,20 @@ struct Outfit<'a, R: Wait> {
     lock: LockPlace,
     printer: HostPrinter<'a, R>,
     writes: Writes,
+    /// Targets are taken as they are before the run, where nothing is recorded of any.
+    trusts_files: bool,
 }
 
 /// The files of this machine, looked at anew.
 #[derive(Drop)]
-struct HostLooks {
+struct HostLooks<'a> {
     host: HostRuntime,
+    touched: &'a ByteStrings,
 }
 
-impl<'a> Looks<FileTree<HostFiles<'a>>> for HostLooks {
+impl<'a> Looks<FileTree<HostFiles<'a>>> for HostLooks<'a> {
     fn anew(&self) -> FileTree<HostFiles<'a>> {
-        HostFiles::tree(self.host)
+        HostFiles::tree(self.host, self.touched)
     }
 }
 
@@ -99,17 +104,31 @@ fn writes_of(options: &Options, later: Later) -> Writes {
     }
 }
 
-/// A printer on the standard streams. Where recipes write on these too, no status line is drawn there.
+/// Where a run shows how far it is: in a status line, unless recipes write on the standard streams too, and in lines of a log that was asked
+/// for.
+fn shown_of(
+    host: HostRuntime,
+    environment: &[Variable],
+    is_silent: bool,
+    writes: Writes,
+    prints_ends: bool,
+) -> Shown {
+    let draws = !is_silent && writes != Writes::Through && draws_status(host, environment);
+    Shown {
+        terminal: draws.then_some(Terminal { host }),
+        prints_ends: prints_ends && prints_to_log(host),
+    }
+}
+
+/// A printer on the standard streams.
 fn host_printer<'a, R: Wait>(
     rt: &'a R,
     host: HostRuntime,
     turns: &'a Turns,
-    environment: &[Variable],
-    is_silent: bool,
     writes: Writes,
+    shown: Shown,
 ) -> Result<HostPrinter<'a, R>, AllocError> {
     let alloc = host.alloc();
-    let has_none = is_silent || writes == Writes::Through;
     let front = match writes {
         Writes::Heard => Some(Front::new(host, alloc, streams_are_one(host))),
         _ => None,
@@ -120,7 +139,7 @@ fn host_printer<'a, R: Wait>(
         turns,
         buffered(alloc, with_patience(host, host.stdout()))?,
         buffered(alloc, with_patience(host, host.stderr()))?,
-        status_columns(host, environment, has_none),
+        shown,
         front,
     ))
 }
@@ -143,7 +162,14 @@ fn outfit_of<'a, R: Wait>(
     let reports = reports_path(host, options.profile, state)?;
     let pool = PoolPath::new(host, state, flags, usize::from(options.workers))?;
     let writes = writes_of(options, later);
-    let printer = host_printer(rt, host, turns, environment, options.is_silent, writes)?;
+    let shown = shown_of(
+        host,
+        environment,
+        options.is_silent,
+        writes,
+        later.prints_ends,
+    );
+    let printer = host_printer(rt, host, turns, writes, shown)?;
     Ok(Outfit {
         folder,
         reports,
@@ -152,6 +178,7 @@ fn outfit_of<'a, R: Wait>(
         lock,
         printer,
         writes,
+        trusts_files: later.trusts_files,
     })
 }
 
@@ -321,13 +348,13 @@ fn make_by_shell<'m, M: Machine, H: Hears + Sync, X, Q: Place, D: Disk + Drop + 
 
 /// Makes the targets with what was found, lets that go, and answers the status. What the system said of files is told at the end.
 /// What lines are run with stands in `before`; they note in `stops` why they have no status.
-fn make_with<'a, R: Threads + Wait + Sync>(
+fn make_with<'a, 'f, R: Threads + Wait + Sync>(
     rt: &'a R,
     host: HostRuntime,
     options: Options,
-    trusts_files: bool,
+    touched: &'f ByteStrings,
     environment: &[Variable],
-    makefiles: &mut FileTexts<HostFiles<'_>>,
+    makefiles: &mut FileTexts<HostFiles<'f>>,
     outfit: Outfit<'_, R>,
     before: &'a BeforeLines,
     stops: &'a Stops<'a, R>,
@@ -344,6 +371,7 @@ fn make_with<'a, R: Threads + Wait + Sync>(
         lock,
         printer,
         writes,
+        trusts_files,
     } = outfit;
     let alloc = host.alloc();
     let is_usual = needs_usual_makefile(&options);
@@ -363,10 +391,10 @@ fn make_with<'a, R: Threads + Wait + Sync>(
         place: &place,
         shell: &before.shell,
     };
-    let looks = HostLooks { host };
+    let looks = HostLooks { host, touched };
     let mut banks = FifoBanks::new(host, "mkfifo");
     let (status, disk) = make_by_shell::<
-        HostMachine<'_, '_, '_, R>,
+        HostMachine<'_, 'f, '_, R>,
         HostPrinter<'_, R>,
         (),
         TrustedPlace<'_, R>,
@@ -413,22 +441,23 @@ pub fn make<R: Threads + Wait + Sync>(
         wait_for_janitors(host, options.state.as_str())?;
     }
     let env = beside_recipes(host, &options, later, environment)?;
-    let mut makefiles = HostFiles::texts(host, options.profile, input, &env);
-    makefiles.define(options.profile, &options.definitions);
-    makefiles.define(options.profile, environment);
+    let folders = IncludeFolders::of(host.alloc(), &options.makefiles)?;
+    let touched = options.touched.copy(host.alloc())?;
+    let mut makefiles = HostFiles::texts(host, options.profile, input, &env, &folders);
+    tell_definitions(host, &options, later, environment, &mut makefiles)?;
     let base = base_asked(host, &options, environment, &mut makefiles)?;
     let turns = Turns::new(host, host.alloc(), later.most_load);
     let outfit = outfit_of(rt, host, &turns, &options, later, environment)?;
     outfit.printer.text(&base);
     let before = BeforeLines::new();
     let stops = Stops::new(rt, host);
-    let duty = duty_of(host, &options, environment, outfit.printer.is_followed())?;
+    let duty = duty_of(host, &options, environment, outfit.printer.draws())?;
     let janitor = Janitor::new(rt, host, duty);
     Ok(make_with(
         rt,
         host,
         options,
-        later.trusts_files,
+        &touched,
         environment,
         &mut makefiles,
         outfit,

@@ -9,8 +9,9 @@ use bd_lists::Variable;
 use dmk_dry::{AlwaysRun, drive};
 use dmk_files::FileTexts;
 use dmk_host::{
-    AlwaysLines, HostFiles, LineSettings, base_asked, beside_recipes, needs_usual_makefile,
-    print_gnu_makefile, print_notes, print_reasons, with_locks_told, with_patience,
+    AlwaysLines, HostFiles, IncludeFolders, LineSettings, base_asked, beside_recipes,
+    needs_usual_makefile, print_gnu_makefile, print_notes, print_reasons, tell_definitions,
+    with_locks_told, with_patience,
 };
 use dmk_messages::{Fault, Message, print_fault};
 use dmk_reading::{Mode, Options, value_of};
@@ -20,7 +21,7 @@ use mk_rules::Tree;
 use plain_text::write_plain;
 use st_disk::{Disk, FileDisk, SystemFolder};
 use st_records::HashKey;
-use std::alloc::AllocError;
+use std::alloc::{AllocError, Global};
 use std::time::Duration;
 use std::{io, thread};
 
@@ -100,7 +101,15 @@ impl Look {
     {
         let is_usual = needs_usual_makefile(&options);
         let Room { folder, mut look } = room;
-        let tree = HostFiles::tree(host);
+        let touched = match options.touched.copy(host.alloc()) {
+            Ok(touched) => touched,
+            Err(error) => {
+                drop(options);
+                drop(look);
+                return Err(error);
+            }
+        };
+        let tree = HostFiles::tree(host, &touched);
         let disk = FileDisk::new(folder);
         let (is_told, disk) = look.take(host, options, environment, tree, makefiles, disk);
         print_notes(host.alloc(), &mut look.err, makefiles);
@@ -320,6 +329,16 @@ fn beside_lines(
     with_locks_told(host, options, environment, env)
 }
 
+/// What the shell of recipes is read from, and where included files are looked for.
+fn read_from(
+    alloc: Global,
+    options: &Options,
+) -> Result<(ShellSource, IncludeFolders), AllocError> {
+    let source = ShellSource::of(alloc, options)?;
+    let folders = IncludeFolders::of(alloc, &options.makefiles)?;
+    Ok((source, folders))
+}
+
 /// Lists what a run would make, or asks whether there is anything. A run that writes the state meanwhile may make a reading of it fail;
 /// so a fault is told once two looks, one behind the other, have come to the same. The lines that are run all the same are those of the
 /// last look, and are run once.
@@ -339,17 +358,21 @@ pub fn ask(
             return Err(error);
         }
     };
-    let source = match ShellSource::of(host.alloc(), &options) {
-        Ok(source) => source,
+    let (source, folders) = match read_from(host.alloc(), &options) {
+        Ok(read) => read,
         Err(error) => {
             drop(options);
             return Err(error);
         }
     };
     let settings = LineSettings::of(&options);
-    let mut makefiles = HostFiles::texts(host, options.profile, input, &env);
-    makefiles.define(options.profile, &options.definitions);
-    makefiles.define(options.profile, environment);
+    let mut makefiles = HostFiles::texts(host, options.profile, input, &env, &folders);
+    if let Err(error) = tell_definitions(host, &options, later, environment, &mut makefiles) {
+        drop(makefiles);
+        drop(source);
+        drop(options);
+        return Err(error);
+    }
     let found = look_and_shell(host, options, environment, &mut makefiles, &source);
     drop(makefiles);
     drop(source);

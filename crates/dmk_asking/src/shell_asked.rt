@@ -1,5 +1,6 @@
 //! The shell that runs lines in a dry run.
 use bd_lists::Variable;
+use byte_strings::ByteStrings;
 use dmk_files::FileTexts;
 use dmk_host::HostFiles;
 use dmk_messages::Fault;
@@ -48,6 +49,7 @@ impl ShellSource {
         Ok(ShellSource {
             makefiles: Makefiles {
                 named: options.makefiles.named.copy(alloc)?,
+                folders: options.makefiles.folders.copy(alloc)?,
                 without_rules: options.makefiles.without_rules,
             },
             profile: options.profile,
@@ -66,7 +68,8 @@ impl ShellSource {
         if !self.profile.is_wide() {
             return Ok(Vec::new(alloc));
         }
-        self.shell_over(alloc, environment, HostFiles::tree(host), texts)
+        let none = ByteStrings::empty(alloc);
+        self.shell_over(alloc, environment, HostFiles::tree(host, &none), texts)
     }
 
     /// The same over files of any types, which are made concrete once, at the call.

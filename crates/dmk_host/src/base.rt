@@ -22,7 +22,7 @@ pub fn base_asked(
         alloc,
         options,
         environment,
-        HostFiles::tree(host),
+        HostFiles::tree(host, &options.touched),
         makefiles,
     )
 }

@@ -3,6 +3,7 @@ ghost use Rattle.std.specs.Prelude.{◌≡◌, ℕ, List, None};
 ghost use Rattle.dmk_files.specs.Stamps.{known_stamp};
 
 use crate::always_run::NONE;
+use crate::include_folders::IncludeFolders;
 use crate::looks::Looks;
 use crate::standard_streams::with_patience;
 use bd_lists::Variable;
@@ -27,6 +28,10 @@ pub struct HostFiles<'a> {
     env: &'a [Variable],
     /// The language of makefiles: in the wide one a byte order mark at the front is no part of a file.
     profile: Profile,
+    /// Where makefiles are looked for that aren't there.
+    folders: Option<&'a IncludeFolders>,
+    /// The files that count as changed later than all others.
+    touched: Option<&'a ByteStrings>,
 }
 
 /// Reads standard input to its end.
@@ -52,8 +57,8 @@ fn read_whole<R: Read>(alloc: Global, file: &mut R, length: u64) -> io::Result<V
 }
 
 impl<'a> HostFiles<'a> {
-    /// The files as they are judged. Nothing is known yet of any.
-    pub fn tree(rt: HostRuntime) -> FileTree<HostFiles<'a>>
+    /// The files as they are judged, of which these count as changed later than all others. Nothing is known yet of any.
+    pub fn tree(rt: HostRuntime, touched: &'a ByteStrings) -> FileTree<HostFiles<'a>>
         ensures { (name : List ℕ) → known_stamp result.stamps name ≡ None }
     {
         let looks = Looks::new();
@@ -65,6 +70,8 @@ impl<'a> HostFiles<'a> {
                 input: None,
                 env: &[],
                 profile: Profile::Strict,
+                folders: None,
+                touched: Some(touched),
             },
         )
     }
@@ -75,6 +82,7 @@ impl<'a> HostFiles<'a> {
         profile: Profile,
         input: Option<&'a [u8]>,
         env: &'a [Variable],
+        folders: &'a IncludeFolders,
     ) -> FileTexts<HostFiles<'a>> {
         let looks = Looks::new();
         FileTexts::new(
@@ -85,6 +93,8 @@ impl<'a> HostFiles<'a> {
                 input,
                 env,
                 profile,
+                folders: Some(folders),
+                touched: None,
             },
         )
     }
@@ -113,6 +123,29 @@ impl<'a> HostFiles<'a> {
         text.strip_prefix(MARK).unwrap_or(text)
     }
 
+    /// Where the file of this name lies, if that isn't where the name says.
+    fn found_elsewhere(&mut self, name: &str) -> Result<Option<String>, AllocError> {
+        let Some(folders) = self.folders else {
+            return Ok(None);
+        };
+        if folders.are_none() || self.looks.status(name).is_ok() {
+            return Ok(None);
+        }
+        for path in folders.paths(self.rt.alloc(), name)? {
+            if self.looks.status(path.as_str()).is_ok() {
+                return Ok(Some(path));
+            }
+        }
+        Ok(None)
+    }
+
+    fn is_touched(&self, name: &str) -> bool {
+        match self.touched {
+            Some(touched) => touched.iter().any(|it| it == name.as_bytes()),
+            None => false,
+        }
+    }
+
     fn input_named(&self, name: &str) -> Option<&'a [u8]> {
         if name.as_bytes() == INPUT {
             self.input
@@ -130,6 +163,9 @@ fn behind_shell(command: &[u8]) -> (&[u8], &[u8]) {
     }
 }
 
+/// A time later than that of any file: seconds since 1970.
+const LATEST: i64 = i64::MAX;
+
 /// What a UTF-8 text may begin with, which is no part of it.
 const MARK: &[u8] = b"\xEF\xBB\xBF";
 
@@ -143,14 +179,28 @@ impl FileCalls for HostFiles<'_> {
                 bytes: input.len() as u64,
             });
         }
-        self.looks.status(name)
+        let elsewhere = self.found_elsewhere(name)?;
+        let path = match &elsewhere {
+            Some(path) => path.as_str(),
+            None => name,
+        };
+        let mut status = self.looks.status(path)?;
+        if self.is_touched(name) {
+            status.seconds = LATEST;
+        }
+        Ok(status)
     }
 
     fn contents(&mut self, alloc: Global, name: &str) -> io::Result<Vec<u8>> {
         if let Some(input) = self.input_named(name) {
             return Ok(Vec::from_slice(alloc, self.unmarked(input))?);
         }
-        let mut file = File::open(&self.rt, name)?;
+        let elsewhere = self.found_elsewhere(name)?;
+        let path = match &elsewhere {
+            Some(path) => path.as_str(),
+            None => name,
+        };
+        let mut file = File::open(&self.rt, path)?;
         let length = file.metadata()?.len();
         let text = read_whole(alloc, &mut file, length)?;
         let unmarked = self.unmarked(&text);

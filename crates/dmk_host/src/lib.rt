@@ -4,8 +4,10 @@
 mod always_run;
 mod base;
 mod child_signal;
+mod definitions_told;
 mod folder;
 mod host_files;
+mod include_folders;
 mod looks;
 mod memory;
 mod pool_path;
@@ -22,8 +24,10 @@ mod word_notes;
 pub use always_run::{AlwaysLines, LineSettings, beside_recipes};
 pub use base::base_asked;
 pub use child_signal::run_anew;
+pub use definitions_told::tell_definitions;
 pub use folder::{FolderFault, enter, tell};
 pub use host_files::{HostFiles, read_input};
+pub use include_folders::IncludeFolders;
 pub use memory::keep_blocks;
 pub use pool_path::{PoolPath, reports_path};
 pub use reasons::{
@@ -34,6 +38,6 @@ pub use standard_streams::{
     Patient, buffered, held_streams, streams_are_one, tell_fault, with_patience,
 };
 pub use state_below::{locks_above, with_locks_told, with_state_below};
-pub use terminal::status_columns;
+pub use terminal::{draws_status, prints_to_log};
 pub use trusted_place::TrustedPlace;
 pub use word_notes::print_word_notes;

@@ -15,7 +15,7 @@ use Rattle.bd_places.specs.declared.end.End.{End}
 use Rattle.bd_places.specs.declared.end.End.TheVariants.{Failed}
 use Rattle.mk_rule_lines.proofs.NameLemmas.{bytes_eq-same}
 use Rattle.mk_graph.specs.Edges.{has}
-use Rattle.mk_graph.specs.Numbering.{name_at, has_name, added}
+use Rattle.mk_names.specs.Names.{name_at, has_name, added}
 use Rattle.mk_graph.proofs.RowLemmas.{has-push}
 use Rattle.mk_rules.proofs.MadeLemmas.{has_at}
 use Rattle.mk_plan.specs.Nodes.{is_marked}

@@ -10,7 +10,7 @@ use Rattle.mk_plan.specs.Passing.{Passes, PassesUnlisted, IsFaultAt}
 use Rattle.mk_plan.specs.declared.fault.RecipeFault.TheVariants as fault
 use Rattle.mk_rule_lines.specs.declared.fault.TextFault.{TextFault}
 use Rattle.dmk_reading.specs.Passing.{no_marks, lists_any}
-use Rattle.mk_graph.specs.Numbering.{name_at, has_name}
+use Rattle.mk_names.specs.Names.{name_at, has_name}
 use Rattle.mk_nodes.specs.declared.graph.Graph.{Graph}
 use Rattle.mk_nodes.specs.declared.graph.Node.{Node}
 use Rattle.dmk_reading.specs.Lost.{StandsOn}

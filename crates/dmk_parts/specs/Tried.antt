@@ -1,7 +1,7 @@
 -- What a part of a run tried: what was built, with a file and without one, and what failed. Own.
 use Rattle.std.specs.Prelude.{◌≡◌, ◌↔◌, ◌++◌, ◌<◌, ℕ, true, List, map, Some, None, length, slice_get}
 use Rattle.std.specs.List.{All}
-use Rattle.mk_graph.specs.Numbering.{name_at, has_name}
+use Rattle.mk_names.specs.Names.{name_at, has_name}
 use Rattle.mk_nodes.specs.declared.graph.Graph.{Graph}
 use Rattle.mk_nodes.specs.declared.graph.Node.{Node}
 use Rattle.bd_places.specs.declared.end.End.{End}

@@ -1,13 +1,13 @@
 //! What makes again what stands on it, behind parts that built it.
 ghost use Rattle.std.specs.Prelude.{◌≡◌, ◌≢◌, ◌<◌, ℕ, List, [], true, false, replicate, length, slice_get, IfOk};
 ghost use Rattle.mk_graph.specs.Edges.{has};
-ghost use Rattle.mk_graph.specs.Numbering.{name_at};
+ghost use Rattle.mk_names.specs.Names.{name_at};
 ghost use Rattle.mk_nodes.specs.declared.graph.Node.{Node as MadeNode};
 ghost use Rattle.mk_plan.specs.TextNames.{HasTextNames};
 ghost use Rattle.dmk_parts.specs.Behind.{IsRunAlone, IsCause, AreCauses, is_group, is_made_before};
 
 use crate::made::is_made_before;
-use mk_graph::Names;
+use mk_names::Names;
 use mk_nodes::Graph;
 use mk_plan::{RecipeFault, has_text_names, pass_in};
 use std::alloc::{AllocError, Global};

@@ -2,7 +2,7 @@
 //! for a failure in them.
 ghost use Rattle.std.specs.Prelude.{◌≡◌, ◌≢◌, ◌↔◌, ◌&&◌, ◌<◌, not, ℕ, Bool, List, [], Some, true, length, option_map, slice_get, IfOk, OnOk};
 ghost use Rattle.mk_graph.specs.Edges.{has};
-ghost use Rattle.mk_graph.specs.Numbering.{name_at, has_name};
+ghost use Rattle.mk_names.specs.Names.{name_at, has_name};
 ghost use Rattle.mk_nodes.specs.declared.graph.Node.{Node as MadeNode};
 ghost use Rattle.mk_plan.specs.Nodes.{is_marked};
 ghost use Rattle.dmk_reading.specs.Lost.{StandsOn};
@@ -14,7 +14,7 @@ use crate::made::is_made_before;
 use crate::tried::Tried;
 use byte_strings::ByteStrings;
 use dmk_reading::{is_lost, nodes_on};
-use mk_graph::Names;
+use mk_names::Names;
 use mk_nodes::{Graph, Node, ShortNumber};
 use mk_plan::name_of;
 use std::alloc::{AllocError, Global};

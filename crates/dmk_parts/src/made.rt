@@ -1,7 +1,7 @@
 //! What a part of a run built and left without a file, and what failed in it.
 ghost use Rattle.std.specs.Prelude.{◌≡◌, ◌⊎◌, ◌∷◌, ◌++◌, ◌<◌, ℕ, List, [], Some, true, false, length, slice_get, IfOk};
 ghost use Rattle.std.specs.List.{All};
-ghost use Rattle.mk_graph.specs.Numbering.{name_at};
+ghost use Rattle.mk_names.specs.Names.{name_at};
 ghost use Rattle.mk_nodes.specs.declared.graph.Node.{Node as MadeNode};
 ghost use Rattle.dmk_parts.specs.Behind.{is_made_before};
 ghost use Rattle.bd_places.specs.declared.end.End.TheVariants as ended;
@@ -9,7 +9,7 @@ ghost use Rattle.dmk_parts.specs.Tried.{IsBuilt, IsBuiltWithoutFile, AreFailed, 
 
 use bd_places::End;
 use byte_strings::{ByteString, ByteStrings};
-use mk_graph::Names;
+use mk_names::Names;
 use mk_nodes::Graph;
 use mk_plan::name_of;
 use mk_rule_lines::is_phony;

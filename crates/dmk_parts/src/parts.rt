@@ -63,12 +63,15 @@ pub fn part_of(
     ensures targets { IfOk result (λ part. part.targets ≡ targets.now) }
 {
     let named = options.makefiles.named.copy(alloc)?;
+    let folders = options.makefiles.folders.copy(alloc)?;
     let state = String::from_str(alloc, options.state.as_str())?;
     let definitions = copied(alloc, &options.definitions)?;
     let targets = targets.copy(alloc)?;
+    let touched = options.touched.copy(alloc)?;
     Ok(Options {
         makefiles: Makefiles {
             named,
+            folders,
             without_rules: options.makefiles.without_rules,
         },
         profile: options.profile,
@@ -84,6 +87,7 @@ pub fn part_of(
         prints_base: options.prints_base,
         definitions,
         targets,
+        touched,
     })
 }
 

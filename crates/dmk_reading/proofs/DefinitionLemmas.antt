@@ -92,7 +92,7 @@ each_rank (Some t) (Some e) (Some d) = refl
 abbrev in_language : Profile → (List ℕ → Ranks) → Defined
 in_language profile ranks = record { language = profile; ranks = ranks }
 
-pub all_ranks : (profile : Profile) (definitions environment own : List Variable) → own ≡ tool_macros profile → (none tool below all : Listed) →
+pub all_ranks : (profile : Profile) (definitions environment own : List Variable) → own ≡ tool_macros profile environment → (none tool below all : Listed) →
     none ≡ none_listed profile →
     ((name : List ℕ) → (defined_by tool).ranks name ≡ with_last ((defined_by none).ranks name) Tool (last_value own name)) →
     tool.language ≡ none.language →
@@ -110,6 +110,6 @@ all_ranks profile definitions environment own is_own none tool below all is_none
     (is_tool name
     ∙ ap (λ (m : Listed). with_last ((defined_by m).ranks name) Tool (last_value own name)) is_none
     ∙ ap (λ vs. with_last no_ranks Tool (last_value vs name)) is_own))
-    ∙ each_rank (last_value (tool_macros profile) name) (last_value (environment_macros profile environment) name) (last_value definitions name)) in
+    ∙ each_rank (last_value (tool_macros profile environment) name) (last_value (environment_macros profile environment) name) (last_value definitions name)) in
     let language : all.language ≡ profile = all_in ∙ below_in ∙ tool_in ∙ ap (λ (m : Listed). m.language) is_none in
     ap (λ p. in_language p (defined_by all).ranks) language ∙ ap (in_language profile) ranks

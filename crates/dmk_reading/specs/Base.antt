@@ -63,7 +63,7 @@ variable_text origin variable = origin_line origin ++ macro_line variable.name (
 -- all that is printed in this language: what is built in, the environment and the command line in their orders, and then the items
 abbrev pub base_text : Profile → (definitions environment : List Variable) (items : List Item) → List ℕ
 base_text profile definitions environment items =
-    flat_map (variable_text (codes "default")) (tool_macros profile)
+    flat_map (variable_text (codes "default")) (tool_macros profile environment)
     ++ flat_map (variable_text (codes "environment")) (environment_macros profile environment)
     ++ flat_map (variable_text (codes "command line")) definitions
     ++ flat_map item_text items

@@ -1,5 +1,7 @@
 -- What is defined before the makefile is read.
-use Rattle.std.specs.Prelude.{ℕ, false, List, [], ◌∷◌, ◌++◌, Option, Some, None, reverse, find, option_map, codes, if◌then◌else◌}
+use Rattle.std.specs.Prelude.{ℕ, Bool, true, false, ◌&&◌, List, [], ◌∷◌, ◌++◌, Option, Some, None, reverse, find, option_map, nat_eq, codes, if◌then◌else◌}
+use Rattle.std.specs.List.{list_any, list_all}
+use Rattle.byte_strings.specs.Blanks.{first_word}
 use Rattle.mk_profile.specs.Profile.{is_wide}
 use Rattle.mk_profile.specs.declared.profile.Profile.{Profile}
 use Rattle.mk_profile.specs.declared.profile.Profile.TheVariants.{Strict, Posix}
@@ -15,11 +17,15 @@ last_value variables name = option_map (λ v. v.value) (find (is_named name) (re
 abbrev pub variable : (name value : List ℕ) → Variable
 variable name value = record { name = name; value = value }
 
--- the tool's own definitions: MAKE alone (make(1S)), and in the wide profile those that rules refer to (POSIX make, "Default
--- Rules"; CC and CFLAGS as before the year's standard is named in them; CXX, CPPFLAGS and RM: GNU make; CXXFLAGS like CFLAGS: own)
-abbrev pub tool_macros : Profile → List Variable
-tool_macros Strict = variable (codes "MAKE") (codes "dmk") ∷ []
-tool_macros Posix =
+-- MAKE alone (make(1S))
+abbrev pub make_alone : List Variable
+make_alone = variable (codes "MAKE") (codes "dmk") ∷ []
+
+-- MAKE, and what rules refer to, unless it is left out (POSIX make, "Default Rules"; CC and CFLAGS as before the year's standard is named in
+-- them; CXX, CPPFLAGS and RM: GNU make; CXXFLAGS like CFLAGS: own)
+abbrev pub wide_macros : (leaves_out : Bool) → List Variable
+wide_macros true = make_alone
+wide_macros false =
     variable (codes "MAKE") (codes "dmk")
     ∷ variable (codes "CC") (codes "cc")
     ∷ variable (codes "CFLAGS") (codes "-O")
@@ -36,6 +42,27 @@ tool_macros Posix =
     ∷ variable (codes "RM") (codes "rm -f")
     ∷ []
 
+-- the letter of an option without a value, or the hyphen in front of such letters
+abbrev pub is_letter : ℕ → Bool
+is_letter b = list_any (nat_eq b) (codes "-BRSeiknqrstw")
+
+-- a word of options by their letters alone, and R is one of them
+abbrev pub has_R : (word : List ℕ) → Bool
+has_R word = list_all is_letter word && list_any (nat_eq 82) word
+
+-- the variable is a MAKEFLAGS that leaves out what rules refer to: its first word has `R` (GNU make, -R)
+abbrev pub says_R : Variable → Bool
+says_R v = is_named (codes "MAKEFLAGS") v && has_R (first_word v.value)
+
+-- some variable does
+abbrev pub leaves_out : (environment : List Variable) → Bool
+leaves_out environment = list_any says_R environment
+
+-- the tool's own definitions in this language (-R: GNU make)
+abbrev pub tool_macros : Profile → (environment : List Variable) → List Variable
+tool_macros Strict environment = make_alone
+tool_macros Posix environment = wide_macros (leaves_out environment)
+
 -- the environment's variables that are macros: in the wide profile all but its SHELL, in whose place the one stands that runs
 -- recipes (POSIX make, "Macros")
 abbrev pub environment_macros : Profile → (environment : List Variable) → List Variable
@@ -49,7 +76,7 @@ first_ranks profile definitions environment name = record {
   command_line = last_value definitions name;
   makefile = None;
   environment = last_value (environment_macros profile environment) name;
-  tool = last_value (tool_macros profile) name;
+  tool = last_value (tool_macros profile environment) name;
   is_fixed = false;
 }
 

@@ -213,7 +213,7 @@ fn text_of(
     ensures { IfOk result (λ text. text.items ≡ base_text profile definitions.now environment.now items.now) }
 {
     let mut text = Vec::new(alloc);
-    append_table(&mut text, table(profile))?;
+    append_table(&mut text, table(profile, environment))?;
     append_environment(&mut text, profile, environment)?;
     append_variables(&mut text, b"command line", definitions)?;
     append_items(alloc, &mut text, items)?;

@@ -1,15 +1,18 @@
 //! What is defined before the makefile is read: the tool's own, the environment, and the command line's definitions.
 ghost use Rattle.std.specs.Prelude.{◌≡◌, ℕ, List, map, IfOk, OnOk};
+ghost use Rattle.std.specs.List.{list_all};
 ghost use Rattle.mk_macros.specs.Ranks.{defined_by};
 ghost use Rattle.mk_macros.specs.declared.definitions.Rank.TheVariants.{Environment, Tool};
-ghost use Rattle.dmk_reading.specs.Definitions.{last_value, with_last, first_defined, variable, tool_macros, environment_macros};
+ghost use Rattle.dmk_reading.specs.Definitions.{last_value, with_last, first_defined, variable, is_letter, has_R, says_R, leaves_out, wide_macros, tool_macros, environment_macros};
 
+use crate::keeping::is_named;
 use bd_lists::Variable;
+use byte_strings::first_word;
 use mk_macros::{Macros, Rank};
 use mk_profile::Profile;
 use std::alloc::{AllocError, Global};
 
-const STRICT: [(&[u8], &[u8]); 1] = [(b"MAKE", b"dmk")];
+const MAKE_ALONE: [(&[u8], &[u8]); 1] = [(b"MAKE", b"dmk")];
 
 const WIDE: [(&[u8], &[u8]); 14] = [
     (b"MAKE", b"dmk"),
@@ -46,13 +49,57 @@ fn define_all(
     Ok(())
 }
 
+/// The letters of options without values, and what stands in front of them.
+const LETTERS: &[u8] = b"-BRSeiknqrstw";
+
+fn is_letter(byte: u8) -> bool
+    ensures { result ≡ is_letter byte }
+{
+    LETTERS.contains(&byte)
+}
+
+fn are_letters(word: &[u8]) -> bool
+    ensures { result ≡ list_all is_letter word.now }
+{
+    word.iter().all(|byte| is_letter(*byte))
+}
+
+fn has_r(word: &[u8]) -> bool
+    ensures { result ≡ has_R word.now }
+{
+    are_letters(word) && word.contains(&b'R')
+}
+
+fn says_r(variable: &Variable) -> bool
+    ensures { result ≡ says_R variable.now }
+{
+    is_named(b"MAKEFLAGS", variable) && has_r(first_word(variable.value.as_slice()))
+}
+
+/// Whether what rules refer to is left out of the tool's own definitions.
+fn leaves_out(environment: &[Variable]) -> bool
+    ensures { result ≡ leaves_out environment.now }
+{
+    environment.iter().any(|variable| says_r(variable))
+}
+
+/// The tool's own definitions in the wide profile.
+fn wide_table(leaves_out: bool) -> &'static [(&'static [u8], &'static [u8])]
+    ensures { map (λ entry. variable entry.0.now entry.1.now) result.now ≡ wide_macros leaves_out }
+{
+    if leaves_out { &MAKE_ALONE } else { &WIDE }
+}
+
 /// The tool's own definitions in this language.
-pub fn table(profile: Profile) -> &'static [(&'static [u8], &'static [u8])]
-    ensures { map (λ entry. variable entry.0.now entry.1.now) result.now ≡ tool_macros profile }
+pub fn table(
+    profile: Profile,
+    environment: &[Variable],
+) -> &'static [(&'static [u8], &'static [u8])]
+    ensures { map (λ entry. variable entry.0.now entry.1.now) result.now ≡ tool_macros profile environment.now }
 {
     match profile {
-        Profile::Strict => &STRICT,
-        Profile::Posix => &WIDE,
+        Profile::Strict => &MAKE_ALONE,
+        Profile::Posix => wide_table(leaves_out(environment)),
     }
 }
 
@@ -100,7 +147,7 @@ pub fn first_macros(
     ensures { IfOk result (λ macros. defined_by macros ≡ first_defined profile definitions.now environment.now) }
 {
     let mut macros = Macros::new(alloc, profile);
-    define_table(alloc, &mut macros, table(profile))?;
+    define_table(alloc, &mut macros, table(profile, environment))?;
     define_environment(alloc, &mut macros, profile, environment)?;
     define_all(alloc, &mut macros, Rank::CommandLine, definitions)?;
     Ok(macros)

@@ -8,7 +8,8 @@ use mk_profile::Profile;
 use mk_reader::{Item, SpecialName};
 use st_records::Form;
 
-fn is_named(name: &[u8], variable: &Variable) -> bool
+/// Whether the variable has this name.
+pub(crate) fn is_named(name: &[u8], variable: &Variable) -> bool
     ensures { result ≡ is_named name.now variable.now }
 {
     name == variable.name.as_slice()

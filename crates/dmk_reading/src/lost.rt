@@ -2,7 +2,7 @@
 ghost use Rattle.std.specs.Prelude.{◌≡◌, ◌↔◌, ◌<◌, ◌||◌, ◌&&◌, ℕ, true, map, length, nat_eq, nat_lt, IfOk};
 ghost use Rattle.std.specs.List.{list_any};
 ghost use Rattle.mk_graph.specs.Edges.{row, has};
-ghost use Rattle.mk_graph.specs.Numbering.{name_at};
+ghost use Rattle.mk_names.specs.Names.{name_at};
 ghost use Rattle.mk_plan.specs.Nodes.{is_marked};
 ghost use Rattle.dmk_reading.specs.Lost.{goes_without, IsLost, StandsOn};
 ghost use Rattle.dmk_reading.specs.Passing.{PassesEach};

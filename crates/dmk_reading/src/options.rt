@@ -41,6 +41,8 @@ pub struct Options {
     pub prints_base: bool,
     pub definitions: Vec<Variable>,
     pub targets: ByteStrings,
+    /// The files that count as changed just now.
+    pub touched: ByteStrings,
 }
 
 /// What a run does with the recipes that it comes to.

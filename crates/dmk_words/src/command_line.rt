@@ -10,6 +10,7 @@ use crate::flags::taken_words;
 use crate::job_words::with_numbers;
 use crate::loads::load_of;
 use crate::mistake::write_mistake;
+use crate::option_table::{INCLUDE, NO_MACROS, TOUCHED, UNDEFINED};
 use crate::program::started_by;
 use crate::request::{Asked, INPUT, Later, Request, WordsFault};
 use bd_lists::Variable;
@@ -270,16 +271,32 @@ fn add_word(alloc: Global, options: &mut Options, word: &str) -> Result<(), Allo
     }
 }
 
-/// What is read as the makefile: those that were found, in the order of the words.
+/// What is read as the makefile: those that were found, in the order of the words, and the folders in which included files are looked for.
 fn makefiles_of(alloc: Global, found: &ArgMatches<'_>) -> Result<Makefiles, AllocError> {
     let mut named = ByteStrings::empty(alloc);
     for name in found.get_strs("makefiles").unwrap_or(&[]) {
         named.push(name.as_bytes())?;
     }
+    let mut folders = ByteStrings::empty(alloc);
+    for folder in found.get_strs(INCLUDE).unwrap_or(&[]) {
+        if !folder.is_empty() {
+            folders.push(folder.as_bytes())?;
+        }
+    }
     Ok(Makefiles {
         named,
-        without_rules: found.contains_id("no_rules"),
+        folders,
+        without_rules: found.contains_id("no_rules") || found.contains_id(NO_MACROS),
     })
+}
+
+/// The files that count as changed just now, by their names without `./` in front.
+fn touched_of(alloc: Global, found: &ArgMatches<'_>) -> Result<ByteStrings, AllocError> {
+    let mut touched = ByteStrings::empty(alloc);
+    for name in found.get_strs(TOUCHED).unwrap_or(&[]) {
+        touched.push(name_in(Profile::Posix, name.as_bytes()))?;
+    }
+    Ok(touched)
 }
 
 /// The language of the makefile.
@@ -328,6 +345,7 @@ fn options_of(alloc: Global, found: &ArgMatches<'_>, workers: u16) -> Result<Opt
         prints_base: found.contains_id("base"),
         definitions: Vec::new(alloc),
         targets: ByteStrings::empty(alloc),
+        touched: touched_of(alloc, found)?,
     })
 }
 
@@ -360,12 +378,15 @@ fn asked_of(alloc: Global, found: &ArgMatches<'_>, above: Above) -> Result<Asked
         program: None,
         later: Later {
             environment_counts: found.contains_id("environment"),
+            without_macros: found.contains_id(NO_MACROS),
             names_state: found.contains_id("state"),
             trusts_files: found.contains_id("trusts_files"),
             has_jobs: named.is_some() || above.is_said,
             output: output_of(found),
             most_load: load_of(found),
+            prints_ends: found.contains_id("progress"),
             hides_folder: found.contains_id("untold"),
+            tells_undefined: found.contains_id(UNDEFINED),
             tells_folder: found.contains_id("told") && !found.contains_id("untold"),
             level: 0,
         },

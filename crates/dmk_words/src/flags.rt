@@ -3,6 +3,7 @@
 ghost use Rattle.std.specs.Prelude.{◌≡◌, false, None, IfOk};
 ghost use Rattle.mk_profile.specs.Profile.{is_wide};
 
+use crate::folders::{folder_in, long_folder, push_folders, take_folder};
 use crate::loads::{load_in, long_load, may_be_load};
 use crate::option_table::{HELD, UNBOUND};
 use crate::output::Output;
@@ -17,10 +18,16 @@ use mk_eval::doubled_text;
 use std::alloc::{AllocError, Global};
 
 /// The options that are taken: those of POSIX make but -f and -p, and what GNU make shares with dmk.
-const TAKEN: &[u8] = b"BSeiknqrstw";
+const TAKEN: &[u8] = b"BRSeiknqrstw";
 
-/// The long option that is taken, and handed on.
+/// The long options that are taken, and handed on.
 const HIDES_FOLDER: &[u8] = b"--no-print-directory";
+
+const TELLS_UNDEFINED: &[u8] = b"--warn-undefined-variables";
+
+fn is_long_taken(word: &[u8]) -> bool {
+    word == HIDES_FOLDER || word == TELLS_UNDEFINED
+}
 
 /// How what recipes write is to be held together by what stands behind the option's letter; None where no such word does.
 fn output_by(word: &[u8]) -> Option<Output> {
@@ -124,6 +131,7 @@ fn push_options(
     if word.len() > 1 {
         taken.push(&word)?;
     }
+    take_folder(alloc, taken, folder_in(letters), next)?;
     take_load(alloc, taken, load_in(letters), next)?;
     take_output(alloc, taken, output_in(letters))
 }
@@ -135,6 +143,7 @@ fn take_long(
     word: &[u8],
     next: Option<&[u8]>,
 ) -> Result<(), AllocError> {
+    take_folder(alloc, taken, long_folder(word), next)?;
     take_load(alloc, taken, long_load(word), next)?;
     take_output(alloc, taken, long_output(word))
 }
@@ -152,7 +161,7 @@ pub fn taken_words(alloc: Global, makeflags: &[u8]) -> Result<ByteStrings, Alloc
         let next = ahead.next();
         match word.strip_prefix(b"-") {
             Some(b"-") => has_options = false,
-            Some([b'-', ..]) if has_options && word == HIDES_FOLDER => taken.push(word)?,
+            Some([b'-', ..]) if has_options && is_long_taken(word) => taken.push(word)?,
             Some([b'-', ..]) if has_options => take_long(alloc, &mut taken, word, next)?,
             Some([b'-', ..]) => {}
             Some(letters) if has_options => push_options(alloc, &mut taken, letters, next)?,
@@ -176,6 +185,7 @@ fn option_word(alloc: Global, options: &Options, later: Later) -> Result<Vec<u8>
         (options.is_dry && !options.asks, b'n'),
         (options.asks, b'q'),
         (options.makefiles.without_rules, b'r'),
+        (later.without_macros, b'R'),
         (options.is_silent, b's'),
         (later.tells_folder, b'w'),
     ] {
@@ -192,6 +202,7 @@ fn option_word(alloc: Global, options: &Options, later: Later) -> Result<Vec<u8>
 /// The options that makes below are told: a word of letters, and behind it one with a value and a long one (GNU make).
 fn option_words(alloc: Global, options: &Options, later: Later) -> Result<Vec<u8>, AllocError> {
     let mut words = option_word(alloc, options, later)?;
+    push_folders(&mut words, &options.makefiles.folders)?;
     if let Some(load) = later.most_load {
         words.extend_from_slice(&load_word(alloc, load)?)?;
     }
@@ -202,6 +213,10 @@ fn option_words(alloc: Global, options: &Options, later: Later) -> Result<Vec<u8
     if later.hides_folder {
         words.push(b' ')?;
         words.extend_from_slice(HIDES_FOLDER)?;
+    }
+    if later.tells_undefined {
+        words.push(b' ')?;
+        words.extend_from_slice(TELLS_UNDEFINED)?;
     }
     Ok(words)
 }

@@ -7,6 +7,7 @@ mod definition;
 mod descriptors;
 mod environment;
 mod flags;
+mod folders;
 mod job_words;
 mod loads;
 mod mistake;

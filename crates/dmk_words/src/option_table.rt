@@ -58,7 +58,19 @@ pub const LOAD: &str = "-l (--load-average)";
 /// What stands for its value where it has none: no load is too high.
 pub const UNBOUND: &str = "none";
 
-static OPTIONS: [Row; 33] = [
+/// How the option is looked for by which included files are.
+pub const INCLUDE: &str = "-I (--include-dir)";
+
+/// How the option is looked for by which the tool has no macros of its own.
+pub const NO_MACROS: &str = "-R (--no-builtin-variables)";
+
+/// The option by which macros are told that nothing defines.
+pub const UNDEFINED: &str = "--warn-undefined-variables";
+
+/// How the option is looked for by which files count as changed.
+pub const TOUCHED: &str = "-W (--what-if)";
+
+static OPTIONS: [Row; 34] = [
     Row {
         id: "folders",
         letter: Some('C'),
@@ -87,6 +99,17 @@ static OPTIONS: [Row; 33] = [
         role: Role::Told(FILES, "Keep the state in FILE and FILE.2"),
     },
     Row {
+        id: INCLUDE,
+        letter: Some('I'),
+        words: &["include-dir"],
+        takes: Takes::Values("DIR"),
+        role: Role::Wide(
+            FILES,
+            "With --posix, look in DIR for files that include\nlines name and that aren't there; all count",
+            "included files aren't searched for; write include DIR/FILE",
+        ),
+    },
+    Row {
         id: "environment",
         letter: Some('e'),
         words: &["environment-overrides"],
@@ -104,6 +127,17 @@ static OPTIONS: [Row; 33] = [
         role: Role::Told(
             FILES,
             "Leave out the rules and suffixes that the wide\nprofile has built in",
+        ),
+    },
+    Row {
+        id: NO_MACROS,
+        letter: Some('R'),
+        words: &["no-builtin-variables"],
+        takes: Takes::Nothing,
+        role: Role::Wide(
+            FILES,
+            "With --posix, leave out the macros too that are\nbuilt in, but for MAKE",
+            "built-in macros stay; -r leaves out the rules",
         ),
     },
     Row {
@@ -134,6 +168,17 @@ static OPTIONS: [Row; 33] = [
         role: Role::Told(
             RUNNING,
             "Run up to N recipes at once, 1 to 256; without N\nas many as there are processors; by default 2, and\n1 with --posix",
+        ),
+    },
+    Row {
+        id: TOUCHED,
+        letter: Some('W'),
+        words: &["what-if", "new-file", "assume-new"],
+        takes: Takes::Values("FILE"),
+        role: Role::Wide(
+            RUNNING,
+            "With --posix, make what is to be made if FILE had\nbeen changed just now, though it stays as it is;\nall count",
+            "the times of files count; touch the file",
         ),
     },
     Row {
@@ -235,6 +280,27 @@ static OPTIONS: [Row; 33] = [
         role: Role::Told(TELLING, "Print them, as without -s; the last one counts"),
     },
     Row {
+        id: "progress",
+        letter: None,
+        words: &["progress"],
+        takes: Takes::Nothing,
+        role: Role::Told(
+            TELLING,
+            "Print a line for each recipe that has ended, as\n[3/17] TARGET, where standard output is no terminal",
+        ),
+    },
+    Row {
+        id: UNDEFINED,
+        letter: None,
+        words: &["warn-undefined", "warn-undefined-variables"],
+        takes: Takes::Nothing,
+        role: Role::Wide(
+            TELLING,
+            "With --posix, note each macro that makefiles refer\nto and that nothing defines,\nonce",
+            "no macro is told that nothing defines; -p prints those that there are",
+        ),
+    },
+    Row {
         id: "told",
         letter: Some('w'),
         words: &["print-directory"],
@@ -293,27 +359,6 @@ static OPTIONS: [Row; 33] = [
         role: Role::Refused("what is out of date is made; name the targets that are wanted"),
     },
     Row {
-        id: "-W (--what-if)",
-        letter: Some('W'),
-        words: &["what-if", "new-file", "assume-new"],
-        takes: Takes::Values("FILE"),
-        role: Role::Refused("the times of files count; touch the file"),
-    },
-    Row {
-        id: "-I (--include-dir)",
-        letter: Some('I'),
-        words: &["include-dir"],
-        takes: Takes::Values("DIR"),
-        role: Role::Refused("included files aren't searched for; write include DIR/FILE"),
-    },
-    Row {
-        id: "-R (--no-builtin-variables)",
-        letter: Some('R'),
-        words: &["no-builtin-variables"],
-        takes: Takes::Nothing,
-        role: Role::Refused("built-in macros stay; -r leaves out the rules"),
-    },
-    Row {
         id: "-L (--check-symlink-times)",
         letter: Some('L'),
         words: &["check-symlink-times"],
@@ -333,15 +378,6 @@ static OPTIONS: [Row; 33] = [
         words: &["debug"],
         takes: Takes::Perhaps("FLAGS", ""),
         role: Role::Refused("-d or --trace tells why targets are made"),
-    },
-    Row {
-        id: "--warn-undefined-variables",
-        letter: None,
-        words: &["warn-undefined-variables"],
-        takes: Takes::Nothing,
-        role: Role::Refused(
-            "no macro is told that nothing defines; -p prints those that there are",
-        ),
     },
 ];
 

@@ -32,6 +32,8 @@ pub struct Asked {
 pub struct Later {
     /// The environment's variables count as definitions of the command line, before its own.
     pub environment_counts: bool,
+    /// The tool's own macros are left out.
+    pub without_macros: bool,
     /// -K names the state. Else it goes by the language.
     pub names_state: bool,
     /// Targets are taken as they are before the run, where nothing is recorded of any.
@@ -42,8 +44,12 @@ pub struct Later {
     pub output: Option<Output>,
     /// From which load on they have no further recipe begin beside others.
     pub most_load: Option<Load>,
+    /// A line is printed where a recipe ends, unless that goes to a terminal.
+    pub prints_ends: bool,
     /// The words or MAKEFLAGS say that no folder is told.
     pub hides_folder: bool,
+    /// Macros are told that makefiles refer to and that nothing defines.
+    pub tells_undefined: bool,
     /// They say that it is.
     pub tells_folder: bool,
     /// How many makes are above this one.

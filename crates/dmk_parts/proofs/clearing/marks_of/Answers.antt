@@ -1,6 +1,6 @@
 use Rattle.std.proofs.Common.{◌≡◌, ◌∙◌, ◌≤◌, ℕ, Bool, List, [], ◌∷◌, ◌++◌, Some, slice_get, arith, inl, inr, sym, ap, subst}
 use Rattle.std.proofs.lemmas.Option.{slice_get_within}
-use Rattle.mk_graph.specs.Numbering.{name_at}
+use Rattle.mk_names.specs.Names.{name_at}
 use Rattle.bd_flusher.proofs.ListLemmas.{at-push, at-push_last}
 use Rattle.dmk_parts.specs.Behind.{is_cleared_by}
 use Rattle.dmk_parts.proofs.BehindLemmas.{earlier_or_this}

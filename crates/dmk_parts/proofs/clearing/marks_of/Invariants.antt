@@ -1,5 +1,5 @@
 use Rattle.std.proofs.Common.{◌≡◌, ◌<◌, ℕ, Some, length, slice_get}
-use Rattle.mk_graph.specs.Numbering.{name_at}
+use Rattle.mk_names.specs.Names.{name_at}
 use Rattle.mk_nodes.specs.declared.graph.Node.{Node}
 use Rattle.dmk_parts.specs.Behind.{is_cleared_by}
 use Rattle.dmk_parts.proofs.clearing.marks_of.Given as goal

@@ -1,5 +1,5 @@
 use Rattle.std.proofs.Common.{◌≡◌, ℕ, List, false, rules, sym, subst}
-use Rattle.mk_graph.specs.Numbering.{has_name}
+use Rattle.mk_names.specs.Names.{has_name}
 use Rattle.dmk_parts.proofs.BehindLemmas.{AreNumberedSoFar, numbered_more, numbered_without}
 use Rattle.dmk_parts.proofs.clearing.numbers_of.Goals as goal
 

@@ -1,7 +1,7 @@
 use Rattle.std.proofs.Common.{◌∙◌, List, ℕ, [], ◌∷◌, ◌++◌, sym, ap, subst}
 use Rattle.std.specs.List.{All}
 use Rattle.std.proofs.lemmas.List.Elements.{All-push}
-use Rattle.mk_graph.specs.Numbering.{name_at}
+use Rattle.mk_names.specs.Names.{name_at}
 use Rattle.dmk_parts.specs.Tried.{IsBuilt}
 use Rattle.dmk_parts.proofs.made.filed_in.Goals.{then-is_built_with_file+in_ok-push, else-is_built_with_file}
 use Rattle.dmk_parts.proofs.made.filed_in.Goals as goal

@@ -1,5 +1,5 @@
 use Rattle.std.proofs.Common.{◌≡◌, map, take}
-use Rattle.mk_graph.specs.Numbering.{name_at}
+use Rattle.mk_names.specs.Names.{name_at}
 use Rattle.dmk_reading.proofs.lost.names_at.Given as goal
 
 abbrev pub invariant-loop-node : goal.invariant-loop-node
