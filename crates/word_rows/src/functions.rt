@@ -1,5 +1,6 @@
 //! The functions, by the names that GNU make has for them.
 use crate::arguments::{argument, number_fault};
+use crate::assignments::say_statement;
 use crate::conditionals::say_taken;
 use crate::depfiles::{say_names, say_place};
 use crate::expansions::Setting;
@@ -115,6 +116,10 @@ impl World for Functions {
             "lines" => {
                 let text = argument(alloc, words)?;
                 say_taken(alloc, text.as_slice(), out)?;
+            }
+            "variables" => {
+                let text = argument(alloc, words)?;
+                say_statement(text.as_slice(), out)?;
             }
             "depfile" => {
                 let text = argument(alloc, words)?;

@@ -1,10 +1,11 @@
-//! Calls GNU make's functions of words and bytes, its expansions and conditionals, and what reads depfiles, as the rows of files say,
-//! and tells which answers differ.
+//! Calls GNU make's functions of words and bytes, its expansions, conditionals and lines of variables, and what reads depfiles, as the
+//! rows of files say, and tells which answers differ.
 //!
 //! `word_rows FILE..`; without a FILE the rows are those of standard input. cases/words/README.md has the language of rows.
 #![tactic(auto)]
 
 mod arguments;
+mod assignments;
 mod conditionals;
 mod depfiles;
 mod expansions;

@@ -1,0 +1,5 @@
+mod DefinitionLemmas
+mod LineLemmas
+mod NameLemmas
+mod SignLemmas
+mod StepLemmas
