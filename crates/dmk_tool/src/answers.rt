@@ -2,11 +2,14 @@
 
 ghost use Rattle.std.specs.Prelude.{◌≡◌, ◌⊎◌};
 
+use crate::causes::causes_of;
 use crate::drawing::{MAX_NAMES, drawing_of};
 use crate::json::database;
+use crate::listing::listing_of;
+use crate::looks::looks_at_targets;
 use crate::request::{Asked, Question, Topic};
 use crate::streams::{tell, tell_of};
-use st_answers::{commands, compilations, hidden, query, targets};
+use st_answers::{commands, compilations, hidden, query, stale_targets, targets};
 use st_disk::FailedCallMessage;
 use st_file::OpenFault;
 use st_listing::ListFault;
@@ -113,8 +116,11 @@ fn write_answer(
 ) -> Result<bool, Fault> {
     let alloc = rt.alloc();
     let (text, found) = match question {
-        Question::Targets => (targets(alloc, state)?, true),
+        Question::Targets { stale: false } => (targets(alloc, state)?, true),
+        Question::Targets { stale: true } => (stale_among(rt, state)?, true),
+        Question::List { json } => (listing_of(alloc, state, *json)?, true),
         Question::Names(topic, names) => of_names(rt, state, *topic, names.as_slice())?,
+        Question::Why(names) => causes_of(rt, state, names.as_slice())?,
         Question::Database { all } => (database_of(rt, state, *all)?, true),
         Question::Graph(names, extent) => drawing_of(rt, file, state, names.as_slice(), *extent)?,
     };
@@ -148,6 +154,12 @@ fn of_names(
         }
     }
     Ok((text, all))
+}
+
+/// The targets that aren't finished, or whose files aren't those that were made.
+fn stale_among(rt: HostRuntime, state: &State) -> Result<Vec<u8>, AllocError> {
+    let looks = looks_at_targets(rt, state)?;
+    stale_targets(rt.alloc(), state, looks.as_slice())
 }
 
 fn database_of(rt: HostRuntime, state: &State, all: bool) -> Result<Vec<u8>, Fault> {

@@ -55,7 +55,7 @@ fn program<'a>(alloc: Global) -> Result<Command<'a>, AllocError> {
         .after_help(AFTER)
         .subcommand_required(true)
         .arg(state(alloc))?;
-    let command = command.subcommand(targets(alloc))?;
+    let command = with(command, targets(alloc))?;
     let command = with(
         command,
         of_names(alloc, "commands", "Prints the recorded commands of targets"),
@@ -76,7 +76,16 @@ fn program<'a>(alloc: Global) -> Result<Command<'a>, AllocError> {
             "Prints what names were made of, and what was made of them",
         ),
     )?;
+    let command = with(
+        command,
+        of_names(
+            alloc,
+            "why",
+            "Prints why targets aren't as they were made, down to the first causes",
+        ),
+    )?;
     let command = with(command, compdb(alloc))?;
+    let command = with(command, list(alloc))?;
     with(command, graph(alloc))
 }
 
@@ -104,10 +113,26 @@ fn state<'a>(alloc: Global) -> Arg<'a> {
         .default_value(DEFAULT_FILE)
 }
 
-fn targets<'a>(alloc: Global) -> Command<'a> {
-    Command::new(alloc, "targets").about(
-        "Prints the names of the targets, and whether each is done",
-    )
+fn targets<'a>(alloc: Global) -> Result<Command<'a>, AllocError> {
+    let stale = Arg::new(alloc, "stale")
+        .long("stale")
+        .help(
+            "Those alone that aren't done, or whose file is gone or another one, and what is wrong",
+        )
+        .action(ArgAction::SetTrue);
+    Command::new(alloc, "targets")
+        .about("Prints the names of the targets, and whether each is done")
+        .arg(stale)
+}
+
+fn list<'a>(alloc: Global) -> Result<Command<'a>, AllocError> {
+    let json = Arg::new(alloc, "json")
+        .long("json")
+        .help("As JSON, an object a line for each target")
+        .action(ArgAction::SetTrue);
+    Command::new(alloc, "list")
+        .about("Prints all that is recorded, as dmk_state lists it")
+        .arg(json)
 }
 
 fn compdb<'a>(alloc: Global) -> Result<Command<'a>, AllocError> {
@@ -176,10 +201,20 @@ fn question_of(
     found: &ArgMatches<'_>,
 ) -> Result<Question, WordsFault> {
     let topic = match name {
-        "targets" => return Ok(Question::Targets),
+        "targets" => {
+            return Ok(Question::Targets {
+                stale: found.get_flag("stale"),
+            });
+        }
+        "list" => {
+            return Ok(Question::List {
+                json: found.get_flag("json"),
+            });
+        }
         "commands" => Topic::Commands,
         "hidden" => Topic::Hidden,
         "query" => Topic::Everything,
+        "why" => return Ok(Question::Why(names_in(alloc, words, found)?)),
         "graph" => {
             let extent = extent_of(found);
             return Ok(Question::Graph(names_in(alloc, words, found)?, extent));
@@ -201,6 +236,7 @@ fn extent_of(found: &ArgMatches<'_>) -> Extent {
     Extent {
         depth,
         hidden: found.get_flag("hidden"),
+        source: false,
     }
 }
 

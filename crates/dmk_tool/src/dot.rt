@@ -1,8 +1,9 @@
 //! A graph in the language of dot (Graphviz, "DOT Language"; what stands in a label, "escString").
 
-use mk_graph::Names;
+use mk_names::Names;
 use st_answers::Edge;
-use st_records::{PackedEntry, Phase};
+use st_packed::PackedEntry;
+use st_records::Phase;
 use st_state::State;
 use std::alloc::{AllocError, Global};
 

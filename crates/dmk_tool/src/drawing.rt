@@ -3,7 +3,7 @@
 use crate::answers::Fault;
 use crate::dot::text_of;
 use crate::streams::tell_of;
-use mk_graph::Names;
+use mk_names::Names;
 use st_answers::{Extent, edges_drawn, is_known, names_drawn, target_names};
 use st_records::ByteStrings;
 use st_state::State;

@@ -2,10 +2,13 @@
 #![tactic(auto)]
 
 mod answers;
+mod causes;
 mod command_line;
 mod dot;
 mod drawing;
 mod json;
+mod listing;
+mod looks;
 mod request;
 mod streams;
 mod words;

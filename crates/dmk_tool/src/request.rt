@@ -7,10 +7,14 @@ use thiserror::Error;
 /// What is asked of a state.
 #[derive(Drop)]
 pub enum Question {
-    /// Which targets it has.
-    Targets,
+    /// Which targets it has, or just those that are `stale`.
+    Targets { stale: bool },
+    /// All that it has, as a listing or as JSON.
+    List { json: bool },
     /// What it has of each of these names.
     Names(Topic, Vec<Vec<u8>>),
+    /// Why these targets aren't as they were made.
+    Why(Vec<Vec<u8>>),
     /// A compilation database, with each command where `all` are wanted.
     Database { all: bool },
     /// What is drawn from these names, or from all targets where there are none.

@@ -7,8 +7,8 @@ use Rattle.std.proofs.lemmas.Grind.{flat_map-append}
 use Rattle.std.specs.Bool.{if◌then◌else◌}
 use Rattle.std.specs.List.{flat_map, IsDistinct}
 use Rattle.std.specs.Str.{bytes_eq}
-use Rattle.mk_graph.specs.Numbering.{name_at, has_name, added, all_added}
-use Rattle.mk_graph.proofs.NameLemmas.{Begins, begins_all_added, all_added-append, length_from_begins, name_at-begins, same_bytes, bytes_same, distinct_none, distinct_all_added}
+use Rattle.mk_names.specs.Names.{name_at, has_name, added, all_added}
+use Rattle.mk_names.proofs.NameLemmas.{Begins, begins_all_added, all_added-append, length_from_begins, name_at-begins, same_bytes, bytes_same, distinct_none, distinct_all_added}
 use Rattle.st_answers.specs.Reached.{ReachesAlong, IsWithin, AreDrawn}
 
 -- ---- a name among others

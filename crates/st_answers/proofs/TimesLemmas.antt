@@ -8,8 +8,8 @@ use Rattle.std.specs.FinMap as map
 use Rattle.std.proofs.Math.Bool.{and-true}
 use Rattle.std.proofs.lemmas.List.Folds.{list_any-append}
 use Rattle.std.proofs.lemmas.Map.Keys.{IsDistinct-head, IsDistinct-tail}
-use Rattle.mk_graph.specs.Numbering.{has_name, added, all_added}
-use Rattle.mk_graph.proofs.NameLemmas.{same_bytes}
+use Rattle.mk_names.specs.Names.{has_name, added, all_added}
+use Rattle.mk_names.proofs.NameLemmas.{same_bytes}
 use Rattle.st_records.specs.Parts.{names_known}
 use Rattle.st_records.specs.declared.record.Entry.{Entry}
 use Rattle.st_state.specs.State.{StateMap}

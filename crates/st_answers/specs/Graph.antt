@@ -1,11 +1,14 @@
 -- What is drawn of a state: prerequisites of names, and an edge for each of them (own).
-use Rattle.std.specs.Prelude.{◌≡◌, ◌+◌, ◌&&◌, ℕ, Bool, true, false, not, List, [], ◌∷◌, ◌++◌, Option, None, Some, filter, if◌then◌else◌, map as list_map}
+use Rattle.std.specs.Prelude.{◌≡◌, ◌+◌, ◌&&◌, ℕ, Bool, true, false, not, List, [], ◌∷◌, ◌++◌, Option, None, Some, filter, length, if◌then◌else◌, map as list_map}
 use Rattle.std.specs.List.{flat_map}
 use Rattle.std.specs.Str.{bytes_eq}
 use Rattle.std.specs.FinMap as map
-use Rattle.mk_graph.specs.Numbering.{has_name, added, all_added}
+use Rattle.mk_names.specs.Names.{has_name, added, all_added}
 use Rattle.st_records.specs.Parts.{names_known}
 use Rattle.st_records.specs.declared.record.Entry.{Entry}
+use Rattle.st_records.specs.declared.record.Explicit.{Explicit}
+use Rattle.st_records.specs.declared.record.Explicit.TheVariants as explicits
+use Rattle.st_marks.specs.Parts.{Parted, parts_of}
 use Rattle.st_state.specs.State.{StateMap}
 use Rattle.st_answers.specs.declared.drawing.Edge.{Edge}
 
@@ -13,13 +16,35 @@ use Rattle.st_answers.specs.declared.drawing.Edge.{Edge}
 abbrev pub hidden_where : (counts : Bool) → Entry → List (List ℕ)
 hidden_where counts entry = if counts then entry.hidden else []
 
-abbrev pub prerequisites_by : (hidden : Bool) → Option Entry → List (List ℕ)
-prerequisites_by hidden None = []
-prerequisites_by hidden (Some entry) = names_known entry.explicit ++ hidden_where hidden entry
+-- the source that an implicit rule gave the target, by what its marks say
+abbrev pub source_among : Option Parted → Option (List ℕ)
+source_among None = None
+source_among (Some marks) = marks.source
+
+abbrev pub source_of : (hidden : List (List ℕ)) → Explicit → Option (List ℕ)
+source_of hidden explicits.Unknown = None
+source_of hidden (explicits.Known names) = None
+source_of hidden (explicits.Marked names text) = source_among (parts_of text (length names) (length hidden))
+
+-- the source, where it counts
+abbrev pub source_where : (counts : Bool) → Entry → Option (List ℕ)
+source_where counts entry = if counts then source_of entry.hidden entry.explicit else None
+
+abbrev pub listed : Option (List ℕ) → List (List ℕ)
+listed None = []
+listed (Some name) = name ∷ []
+
+-- the prerequisites of an entry that count: the source first
+abbrev pub prerequisites_in : (hidden source : Bool) → Entry → List (List ℕ)
+prerequisites_in hidden source entry = listed (source_where source entry) ++ (names_known entry.explicit ++ hidden_where hidden entry)
+
+abbrev pub prerequisites_by : (hidden source : Bool) → Option Entry → List (List ℕ)
+prerequisites_by hidden source None = []
+prerequisites_by hidden source (Some entry) = prerequisites_in hidden source entry
 
 -- the prerequisites that count of a name: none of what is no target
-abbrev pub prerequisites_of : StateMap → (hidden : Bool) → List ℕ → List (List ℕ)
-prerequisites_of m hidden name = prerequisites_by hidden (map.get m name)
+abbrev pub prerequisites_of : StateMap → (hidden source : Bool) → List ℕ → List (List ℕ)
+prerequisites_of m hidden source name = prerequisites_by hidden source (map.get m name)
 
 -- ---- edges
 

@@ -12,3 +12,7 @@ pub mod Compilations
 pub mod Reached
 -- the prerequisites of names, and the edges that are drawn of them
 pub mod Graph
+-- targets that aren't finished, or whose file isn't the one that was made
+pub mod Stale
+-- why a target isn't as it was made, down to what is changed behind it
+pub mod Why

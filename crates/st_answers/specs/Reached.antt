@@ -2,7 +2,7 @@
 use Rattle.std.specs.Prelude.{◌≡◌, ◌≤◌, ℕ, zero, suc, true, List, [], ◌++◌, Option, None, Some, length, take}
 use Rattle.std.specs.List.{flat_map, IsDistinct}
 use Rattle.std.specs.Str.{bytes_eq}
-use Rattle.mk_graph.specs.Numbering.{has_name, all_added}
+use Rattle.mk_names.specs.Names.{has_name, all_added}
 
 -- from these starts a name is reached along just so many edges, where `of` gives the prerequisites of a name
 abbrev pub ReachesAlong : (of : List ℕ → List (List ℕ)) (starts : List (List ℕ)) (edges : ℕ) (name : List ℕ) → Type 0

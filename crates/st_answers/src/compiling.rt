@@ -7,7 +7,8 @@ ghost use Rattle.st_state.specs.State.{StateMap};
 ghost use Rattle.st_answers.specs.Compilations.{compiled, is_source_in, first_or, compiled_by, compiled_from, compiled_for, all_compiled};
 
 use crate::sources::is_source_in;
-use st_records::{Iter, PackedEntry, Phase};
+use st_packed::PackedEntry;
+use st_records::{Iter, Phase};
 use st_state::Listed;
 use std::alloc::{AllocError, Global};
 

@@ -5,13 +5,15 @@ ghost use Rattle.std.specs.List.{flat_map, IsDistinct};
 ghost use Rattle.std.specs.Str.{bytes_eq};
 ghost use Rattle.std.specs.Option.{option_copied};
 ghost use Rattle.std.specs.FinMap as map;
-ghost use Rattle.mk_graph.specs.Numbering.{all_added};
+ghost use Rattle.mk_names.specs.Names.{all_added};
 ghost use Rattle.st_answers.specs.Answers.{target_names};
 ghost use Rattle.st_answers.specs.Reached.{IsWithin, AreDrawn};
-ghost use Rattle.st_answers.specs.Graph.{hidden_where, prerequisites_by, prerequisites_of, named_edge, new_names, edges_to, edges_by, edges_among, AreEdges};
+ghost use Rattle.st_answers.specs.Graph.{hidden_where, listed, prerequisites_in, prerequisites_by, prerequisites_of, named_edge, new_names, edges_to, edges_by, edges_among, AreEdges};
 
-use mk_graph::Names;
-use st_records::{ByteStrings, Iter, PackedEntry};
+use crate::inferred::source_where;
+use mk_names::Names;
+use st_packed::PackedEntry;
+use st_records::{ByteStrings, Iter};
 use st_state::State;
 use std::alloc::{AllocError, Global};
 
@@ -22,6 +24,8 @@ pub struct Extent {
     pub depth: Option<usize>,
     /// Whether hidden prerequisites count.
     pub hidden: bool,
+    /// Whether the source counts that an implicit rule gave a target.
+    pub source: bool,
 }
 
 /// A prerequisite of a name.
@@ -52,7 +56,7 @@ pub fn names_drawn(
     starts: &ByteStrings,
     extent: Extent,
 ) -> Result<Names, AllocError>
-    ensures { IfOk result (λ names. AreDrawn (prerequisites_of state.now extent.hidden) starts.now extent.depth names) }
+    ensures { IfOk result (λ names. AreDrawn (prerequisites_of state.now extent.hidden extent.source) starts.now extent.depth names) }
 {
     let mut names = Names::new(alloc);
     mention_all(alloc, &mut names, &starts.iter())?;
@@ -60,7 +64,7 @@ pub fn names_drawn(
     let mut edges = 0;
     while looked_at < names.len() && goes_on(extent.depth, edges) {
         let end = names.len();
-        mention_prerequisites(alloc, state, &mut names, looked_at, extent.hidden)?;
+        mention_prerequisites(alloc, state, &mut names, looked_at, extent)?;
         looked_at = end;
         edges += 1;
     }
@@ -83,15 +87,15 @@ fn mention_prerequisites(
     state: &State,
     names: &mut Names,
     first: usize,
-    hidden: bool,
+    extent: Extent,
 ) -> Result<(), AllocError>
     requires { first ≤ length names.old }
-    ensures { OnOk result (names.new ≡ all_added names.old (flat_map (prerequisites_of state.now hidden) (drop first names.old))) }
+    ensures { OnOk result (names.new ≡ all_added names.old (flat_map (prerequisites_of state.now extent.hidden extent.source) (drop first names.old))) }
 {
     let end = names.len();
     for number in first..end {
         let known = state.get(names.name(number));
-        mention_known(alloc, names, known, hidden)?;
+        mention_known(alloc, names, known, extent)?;
     }
     Ok(())
 }
@@ -100,15 +104,37 @@ fn mention_known(
     alloc: Global,
     names: &mut Names,
     known: Option<&PackedEntry>,
-    hidden: bool,
+    extent: Extent,
 ) -> Result<(), AllocError>
-    ensures { OnOk result (names.new ≡ all_added names.old (prerequisites_by hidden (option_copied known.entry))) }
+    ensures { OnOk result (names.new ≡ all_added names.old (prerequisites_by extent.hidden extent.source (option_copied known.entry))) }
 {
     match known {
         None => Ok(()),
-        Some(entry) => {
-            mention_all(alloc, names, &entry.names())?;
-            mention_all(alloc, names, &hidden_where(hidden, entry))
+        Some(entry) => mention_of(alloc, names, entry, extent),
+    }
+}
+
+fn mention_of(
+    alloc: Global,
+    names: &mut Names,
+    entry: &PackedEntry,
+    extent: Extent,
+) -> Result<(), AllocError>
+    ensures { OnOk result (names.new ≡ all_added names.old (prerequisites_in extent.hidden extent.source entry.now)) }
+{
+    mention_one(alloc, names, source_where(extent.source, entry))?;
+    mention_all(alloc, names, &entry.names())?;
+    mention_all(alloc, names, &hidden_where(extent.hidden, entry))
+}
+
+fn mention_one(alloc: Global, names: &mut Names, mentioned: Option<&[u8]>) -> Result<(), AllocError>
+    ensures { OnOk result (names.new ≡ all_added names.old (listed (option_copied mentioned.entry))) }
+{
+    match mentioned {
+        None => Ok(()),
+        Some(name) => {
+            names.mention(alloc, name)?;
+            Ok(())
         }
     }
 }

@@ -3,7 +3,7 @@
 ghost use Rattle.std.specs.Prelude.{◌≡◌, ◌++◌, codes, length, OnOk};
 ghost use Rattle.std.specs.List.{flat_map};
 ghost use Rattle.std.specs.Option.{option_copied};
-ghost use Rattle.st_records.specs.Packed.{explicit_from};
+ghost use Rattle.st_records.specs.Parts.{explicit_from};
 ghost use Rattle.st_marks.specs.Parts.{parts_of, parted};
 ghost use Rattle.st_answers.specs.Lines.{row};
 ghost use Rattle.st_answers.specs.Marks.{plain_rows, mark_row, mark_below, marked_rows, source_rows, rows_with, rows_by, rows_below};

@@ -10,7 +10,8 @@ ghost use Rattle.st_answers.specs.Users.{is_among, stands_on, user_rows, has_nam
 use crate::line_text::append_row;
 use crate::of_marks::append_below;
 use crate::of_targets::append_target;
-use st_records::{Iter, PackedEntry};
+use st_packed::PackedEntry;
+use st_records::Iter;
 use st_state::{Listed, State};
 use std::alloc::AllocError;
 

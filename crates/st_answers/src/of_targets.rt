@@ -4,7 +4,8 @@ ghost use Rattle.std.specs.Prelude.{◌≡◌, ◌++◌, IfOk, OnOk, length};
 ghost use Rattle.st_answers.specs.Answers.{phase_word, target_row, targets_text, is_target_of, commands_text, hidden_text};
 
 use crate::line_text::{append_lines, append_row};
-use st_records::{PackedEntry, Phase};
+use st_packed::PackedEntry;
+use st_records::Phase;
 use st_state::State;
 use std::alloc::{AllocError, Global};
 

@@ -1,6 +1,6 @@
 use Rattle.std.proofs.Common.{◌≡◌, ◌++◌}
 use Rattle.std.specs.Prelude.{map as list_map}
-use Rattle.mk_graph.specs.Numbering.{all_added}
+use Rattle.mk_names.specs.Names.{all_added}
 use Rattle.st_answers.specs.Graph.{named_edge, edges_to, new_names}
 use Rattle.st_answers.proofs.drawing.append_edges.Given as goal
 

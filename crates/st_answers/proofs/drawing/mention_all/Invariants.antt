@@ -1,5 +1,5 @@
 use Rattle.std.proofs.Common.{◌≡◌}
-use Rattle.mk_graph.specs.Numbering.{all_added}
+use Rattle.mk_names.specs.Names.{all_added}
 use Rattle.st_answers.proofs.drawing.mention_all.Given as goal
 
 abbrev pub invariant-loop-name : goal.invariant-loop-name
