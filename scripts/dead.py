@@ -22,24 +22,18 @@ SIGNATURE = re.compile(r"^(?:pub )?([^\s:(){}]+) : ")
 # by their crate. So does what the crates above are to name next, the calls that take a form of records. What isn't dead any more has
 # to be taken out here.
 WAITING = {
-    "crates/st_records/proofs/Good.antt": {"fits_from_good"},
-    # What a record says of explicit names in each form; go with the next change of their crate.
-    "crates/jb_recipe/proofs/NotingLemmas.antt": {"begun_says", "done_says", "failed_says"},
-    "crates/st_recovery/proofs/MemoryLemmas.antt": {"comes_of_state"},
 }
 WAITING_EXPORTS = {
     "bl_log": {"CriticalPath", "Ranked", "Span", "busy", "by_time", "critical_path", "lanes"},
-    "jb_flags": {"Jobs", "jobs_of", "push_quoted"},
     "jb_marks": {"Known", "MemorySights", "Placed", "is_same"},
-    "jb_recipe": {"Files"},
     "jb_slots": {"Fifo", "dry"},
+    # What a target alone has, behind its colon, is read by it.
+    "mk_assignments": {"definition_of"},
     "mk_conditionals": {"BodyLine", "DirectiveLine", "Reading", "body_line"},
     "mk_eval": {"MAX_INCLUDE_DEPTH"},
     "mk_functions": {"MAX_CALLS", "MAX_PIECES", "MAX_VALUE"},
-    "mk_graph": {"distinct_names", "order_nodes", "whole_plan"},
+    "mk_graph": {"distinct_names", "whole_plan"},
     "mk_macros": {"FUNCTIONS"},
-    "mk_marks": {"mark_of"},
-    "mk_plan": {"made_beside"},
     "mk_recipe": {"LineStatus", "Look", "Mark", "Prerequisite", "Told", "Verdict", "outcome"},
     "mk_seen": {"SeenFiles"},
     # Types of fields that others read.
@@ -55,10 +49,8 @@ WAITING_EXPORTS = {
         "read_from", "read_log",
     },
     "st_marks": {"Marked", "append_marks"},
-    "st_records": {
-        "MAX_COMMANDS", "MAX_EXPLICIT_NAMES", "MAX_NAME_BYTES_IN_ONE", "MAX_RECORD_BYTES_IN_ONE", "append_kept",
-        "room_after_kept",
-    },
+    "st_packed": {"append_kept", "room_after_kept"},
+    "st_records": {"MAX_NAME_BYTES_IN_ONE", "MAX_RECORD_BYTES_IN_ONE"},
     "st_recovery": {
         "Chosen", "ChosenIn", "choose_from", "choose_from_in", "choose_in",
     },

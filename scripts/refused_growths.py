@@ -135,7 +135,10 @@ SWEEPS = [
     ("dmk_state", "a listing", listing_refused, STATE, [LISTER]),
     ("dmk_tool", "a query", listing_refused, STATE, [TOOL, "query", "t1.h"]),
     ("dmk_tool", "a database", listing_refused, STATE, [TOOL, "compdb"]),
+    ("dmk_tool", "stale targets", listing_refused, STATE, [TOOL, "targets", "--stale"]),
+    ("dmk_tool", "a listing as JSON", listing_refused, STATE, [TOOL, "list", "--json"]),
     ("dmk_tool", "a graph", listing_refused, STATE, [TOOL, "graph", "--hidden"]),
+    ("dmk_tool", "causes", listing_refused, STATE, [TOOL, "why", *NAMES, "sum"]),
 ]
 
 

@@ -175,6 +175,8 @@ def read_files(names):
 
 
 def main():
+    # Under nohup programs would ignore it, and rows send it.
+    signal.signal(signal.SIGHUP, signal.SIG_DFL)
     named = sys.argv[1:] or sorted(glob.glob(os.path.join(ROOT, "cases", "rows", "*.rows")))
     rows, faults = read_files([os.path.relpath(name) for name in named])
     for fault in faults:
