@@ -11,10 +11,8 @@ use crate::notes::Notes;
 use byte_strings::{ByteString, ByteStrings, is_blank};
 use mk_macros::Macros;
 use mk_names::Names;
+use mk_reader::BUILT_IN;
 use std::alloc::{AllocError, Global};
-
-/// The name under which the rules stand that are built in: what they refer to may be defined or not.
-const BUILT_IN: &[u8] = b"(built-in)";
 
 /// The names of automatic macros.
 const AUTOMATIC: &[u8] = b"@%?<*^+|";
@@ -114,7 +112,8 @@ impl Notes {
         });
     }
 
-    /// Takes in the macro of the reference that stands behind a dollar, where it is asked for.
+    /// Takes in the macro of the reference that stands behind a dollar, where it is asked for: what rules that are built in refer to may
+    /// be defined or not.
     pub(crate) fn see_referred(
         &mut self,
         alloc: Global,

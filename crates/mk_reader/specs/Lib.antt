@@ -1,4 +1,6 @@
 -- The model is Comments, Spelled, Grammar, Special and Statements, over the lines of mk_lines; Form is what the code does.
+-- BuiltIn: the name of the rules that are built in.
+pub mod BuiltIn
 -- Comments: what a line holds without its comment.
 pub mod Comments
 -- Directive: words that begin lines of GNU make, and how such a line is told.

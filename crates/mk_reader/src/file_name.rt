@@ -6,6 +6,9 @@ use std::alloc::{AllocError, Global};
 use std::marker::Model;
 use std::sync::Arc;
 
+/// The name under which the rules are read that are built in.
+pub const BUILT_IN: &[u8] = b"(built-in)";
+
 /// A file's name as it was given, or as it stands on the include line. Contracts see its bytes.
 ///
 /// Its count is an atomic one, since workers share the graph, whose rule lines hold names.

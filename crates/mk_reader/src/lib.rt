@@ -21,7 +21,7 @@ mod statements;
 
 pub use directive::Directive;
 pub use fault::{Cause, Feature, MacroCause, ReadFault, Refusal, StaticCause};
-pub use file_name::FileName;
+pub use file_name::{BUILT_IN, FileName};
 pub use item::{
     Definition, DefinitionKind, DefinitionLine, IncludeLine, Item, Recipe, RecipeLine, Rule,
     Special, Statement,

@@ -1,11 +1,12 @@
 -- What the rule lines of a makefile say of a name. A line stands here with its texts expanded and cut into words.
-use Rattle.std.specs.Prelude.{ℕ, ◌+◌, Bool, true, false, not, ◌&&◌, ◌||◌, ◌==◌, List, [], ◌∷◌, ◌++◌, filter, Option, None, Some, is_none, bytes_eq, codes, if◌then◌else◌}
+use Rattle.std.specs.Prelude.{ℕ, ◌+◌, Bool, true, false, not, ◌&&◌, ◌||◌, ◌==◌, List, [], ◌∷◌, ◌++◌, filter, Option, None, Some, is_none, bytes_eq, if◌then◌else◌}
 use Rattle.std.specs.List.{list_any}
 use Rattle.std.specs.Option.{option_map_or}
 use Rattle.mk_macros.specs.Words.{without_front}
 use Rattle.mk_profile.specs.Profile.{is_wide}
 use Rattle.mk_profile.specs.declared.profile.Profile.{Profile}
 use Rattle.mk_lines.specs.Text.{is_empty}
+use Rattle.mk_reader.specs.BuiltIn.{built_in_name}
 use Rattle.mk_reader.specs.declared.special.SpecialName.{SpecialName}
 use Rattle.mk_reader.specs.declared.special.SpecialName.TheVariants.{Suffixes, Phony, Default}
 use Rattle.mk_rule_lines.specs.declared.rule_line.RuleLine.{RuleLine}
@@ -27,7 +28,7 @@ told_file profile file = if is_wide profile then Some file else None
 
 -- a line of the rules that are built in: it stands under their name (own), and the strict profile has none
 abbrev pub is_built_in : RuleLine → Bool
-is_built_in l = is_wide l.profile && bytes_eq l.file (codes "(built-in)")
+is_built_in l = is_wide l.profile && bytes_eq l.file built_in_name
 
 -- a line that is no special rule
 abbrev pub is_rule : RuleLine → Bool

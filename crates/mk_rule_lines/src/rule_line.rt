@@ -9,11 +9,8 @@ ghost use Rattle.mk_rule_lines.specs.Rules.{has, has_percent, is_rule, is_patter
 use crate::line_words::LineWords;
 use byte_strings::ByteStrings;
 use mk_profile::Profile;
-use mk_reader::{FileName, Recipe, SpecialName};
+use mk_reader::{BUILT_IN, FileName, Recipe, SpecialName};
 use std::alloc::{AllocError, Global};
-
-/// The name that the rules which are built in are read under.
-const BUILT_IN: &[u8] = b"(built-in)";
 
 /// A rule line, or the line of a special rule. That of `.PHONY` has the names that it lists as its targets.
 pub struct RuleLine {
