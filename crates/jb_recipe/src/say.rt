@@ -68,7 +68,7 @@ pub trait Say {
     /// Whether somebody follows how far a run is. To count its recipes before it takes time.
     fn is_followed(&self) -> bool;
 
-    /// The run is a step further. It prints nothing that stays.
+    /// The run is a step further. What is printed of it stays in a log, and makes way for the next step on a terminal.
     fn step(&self, step: Step<'_>);
 
     /// A line of a recipe, without its prefixes, that is about to be run; or one that says why the recipe is.
