@@ -1,9 +1,7 @@
 //! Whether a node is up to date, found in one walk over its files and its recipe, without a list of either.
-ghost use Rattle.std.specs.Prelude.{◌≡◌, ◌<◌, ◌∷◌, ◌&&◌, [], true, false, length, Some, IfOk};
+ghost use Rattle.std.specs.Prelude.{◌≡◌, ◌<◌, ◌∷◌, [], true, false, length, Some, IfOk};
 ghost use Rattle.std.specs.Bool.{OnTrue};
 ghost use Rattle.mk_names.specs.Names.{name_at};
-ghost use Rattle.mk_seen.specs.Leaving.{is_kept, leaves_all};
-ghost use Rattle.mk_seen.specs.Nodes.{entry_of};
 ghost use Rattle.mk_seen.specs.TextNames.{HasTextNames};
 ghost use Rattle.mk_plan.specs.Parts.{recipe_line};
 ghost use Rattle.mk_plan.specs.Passage.{finished};
@@ -13,28 +11,8 @@ use crate::kept::is_kept_so;
 use crate::parts::is_part;
 use mk_nodes::Graph;
 use mk_rule_lines::RuleLine;
-use mk_seen::{entry_of, is_kept, leaves_all, noted_in};
-use st_packed::PackedEntry;
+use mk_seen::{entry_of, gives_no_reason};
 use std::alloc::{AllocError, Global};
-
-/// Whether neither the entry that the state has of a node nor one of its files is a reason to make it.
-fn gives_no_reason(
-    keeping: bool,
-    texts: bool,
-    graph: &Graph,
-    marks: &[bool],
-    node: usize,
-    entry: &PackedEntry,
-) -> bool
-    requires node { node < length graph.now.nodes.items }
-    requires texts { texts ≡ true → HasTextNames graph.now }
-    requires entry { entry_of graph.now node ≡ Some entry.now }
-    ensures { result ≡ (is_kept graph.now node entry.now && leaves_all keeping graph.now marks.now node) }
-{
-    let noted = noted_in(graph, node, entry);
-    is_kept(graph, node, entry, &noted)
-        && leaves_all(keeping, texts, graph, marks, node, entry, noted)
-}
 
 /// Whether a node is found to be up to date whose recipe this line has, or begins, where the marks are those of the nodes that were
 /// remade before it. The answer no says nothing: a fault of its recipe is told, and a reason, where its lines are made.

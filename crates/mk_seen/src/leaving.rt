@@ -3,12 +3,12 @@ ghost use Rattle.std.specs.Prelude.{◌≡◌, ◌<◌, ◌||◌, ◌&&◌, true
 ghost use Rattle.std.specs.List.{list_all};
 ghost use Rattle.mk_verdict.specs.Marks.{mark_of};
 ghost use Rattle.mk_seen.specs.Leaving.{leaves_file, leaves_hard, leaves_hidden, leaves_made, leaves_prerequisites, leaves_all, has_text_name, is_explicit, is_done, is_kept};
-ghost use Rattle.mk_seen.specs.Marks.{look_from, looks_made, marks_behind, noted_in, with_marks};
+ghost use Rattle.mk_seen.specs.Marks.{is_as_recorded, look_from, looks_made, marks_behind, noted_in, with_marks};
 ghost use Rattle.mk_seen.specs.Nodes.{entry_of, hidden_of, made_of};
 ghost use Rattle.mk_seen.specs.TextNames.{HasTextNames};
 
 use crate::looks::{look_from, look_of, looks_beside};
-use crate::marks::{is_as_recorded, marks_left};
+use crate::marks::{is_as_recorded, marks_left, noted_in};
 use crate::names::are_names_of;
 use crate::nodes::{is_later, is_marked, made_of, name_of, stamp_of};
 use crate::text_names::is_text_name;
@@ -196,46 +196,13 @@ fn are_readable(keeping: bool, texts: bool, graph: &Graph, node: usize) -> bool
     !keeping || have_text_names(graph, node)
 }
 
-/// Whether a node has its files, which are those that its recipe has left, and no prerequisite is a reason to make it, where the state
-/// has this entry of it, and of its files what is noted.
-pub fn leaves_all(
-    keeping: bool,
-    texts: bool,
-    graph: &Graph,
-    marks: &[bool],
-    node: usize,
-    entry: &PackedEntry,
-    noted: Noted<'_>,
-) -> bool
-    requires node { node < length graph.now.nodes.items }
-    requires texts { texts ≡ true → HasTextNames graph.now }
-    requires entry { entry_of graph.now node ≡ Some entry.now }
-    requires noted { noted ≡ noted_in graph.now node entry.now }
-    ensures { result ≡ leaves_all keeping graph.now marks.now node }
-{
-    let made = made_of(graph, node);
-    if made.is_none() {
-        return false;
-    }
-    let Noted {
-        source_changed,
-        mut kept,
-    } = noted;
-    if !leave_made(keeping, graph, node, &mut kept) {
-        return false;
-    }
-    let left = marks_left(graph, node, entry, source_changed, kept);
-    leave_prerequisites(keeping, graph, marks, made, node, left)
-        && are_readable(keeping, texts, graph, node)
-}
-
 /// Whether the explicit prerequisites of a node are those that are recorded, where they are.
-fn is_explicit(graph: &Graph, node: usize, entry: &PackedEntry, source_changed: bool) -> bool
+fn is_explicit(graph: &Graph, node: usize, entry: &PackedEntry, recorded: bool) -> bool
     requires node { node < length graph.now.nodes.items }
-    requires source { source_changed ≡ (noted_in graph.now node entry.now).source_changed }
+    requires recorded { recorded ≡ is_as_recorded graph.now node entry.now }
     ensures { result ≡ is_explicit graph.now node entry.now }
 {
-    if is_as_recorded(graph, node, entry, source_changed) {
+    if recorded {
         return true;
     }
     match entry.explicit() {
@@ -255,12 +222,52 @@ fn is_done(phase: Phase) -> bool
 }
 
 /// Whether the entry is that of a recipe that was run to its end, with a node's source and explicit prerequisites.
-pub fn is_kept(graph: &Graph, node: usize, entry: &PackedEntry, noted: &Noted<'_>) -> bool
+fn is_kept(
+    graph: &Graph,
+    node: usize,
+    entry: &PackedEntry,
+    source_changed: bool,
+    recorded: bool,
+) -> bool
     requires node { node < length graph.now.nodes.items }
-    requires noted { noted.now ≡ noted_in graph.now node entry.now }
+    requires source { source_changed ≡ (noted_in graph.now node entry.now).source_changed }
+    requires recorded { recorded ≡ is_as_recorded graph.now node entry.now }
     ensures { result ≡ is_kept graph.now node entry.now }
 {
-    is_done(entry.phase())
-        && !noted.source_changed
-        && is_explicit(graph, node, entry, noted.source_changed)
+    is_done(entry.phase()) && !source_changed && is_explicit(graph, node, entry, recorded)
+}
+
+/// Whether neither the entry that the state has of a node nor one of its files is a reason to make it. Both ask whether the names are
+/// those that are recorded, which is found out once.
+pub fn gives_no_reason(
+    keeping: bool,
+    texts: bool,
+    graph: &Graph,
+    marks: &[bool],
+    node: usize,
+    entry: &PackedEntry,
+) -> bool
+    requires node { node < length graph.now.nodes.items }
+    requires texts { texts ≡ true → HasTextNames graph.now }
+    requires entry { entry_of graph.now node ≡ Some entry.now }
+    ensures { result ≡ (is_kept graph.now node entry.now && leaves_all keeping graph.now marks.now node) }
+{
+    let Noted {
+        source_changed,
+        mut kept,
+    } = noted_in(graph, node, entry);
+    let recorded = is_as_recorded(graph, node, entry, source_changed);
+    if !is_kept(graph, node, entry, source_changed, recorded) {
+        return false;
+    }
+    let made = made_of(graph, node);
+    if made.is_none() {
+        return false;
+    }
+    if !leave_made(keeping, graph, node, &mut kept) {
+        return false;
+    }
+    let left = marks_left(graph, node, entry, recorded, kept);
+    leave_prerequisites(keeping, graph, marks, made, node, left)
+        && are_readable(keeping, texts, graph, node)
 }

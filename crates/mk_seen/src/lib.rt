@@ -13,9 +13,9 @@ mod seen;
 mod text_names;
 
 pub use compared::compared_of;
-pub use leaving::{is_kept, leaves_all};
+pub use leaving::gives_no_reason;
 pub use looks::look_of;
-pub use marks::{marks_of, noted_in};
+pub use marks::marks_of;
 pub use nodes::{
     entry_of, explicit_of, is_later, is_marked, made_beside, made_of, name_of, source_of, stamp_of,
     stem_of,

@@ -37,7 +37,7 @@ fn marks_text(entry: &PackedEntry) -> Option<&[u8]>
 }
 
 /// What an entry has of the files of a node.
-pub fn noted_in<'g>(graph: &'g Graph, node: usize, entry: &'g PackedEntry) -> Noted<'g>
+pub(crate) fn noted_in<'g>(graph: &'g Graph, node: usize, entry: &'g PackedEntry) -> Noted<'g>
     requires { node < length graph.now.nodes.items }
     ensures { result ≡ noted_in graph.now node entry.now }
 {
@@ -76,9 +76,11 @@ fn has_same_names(graph: &Graph, node: usize, entry: &PackedEntry, source_change
     ensures { result ≡ has_same_names graph.now node entry.now }
 {
     let explicit = graph.explicit(node);
-    let recorded = entry.names().len() as u128 + entry.hidden().len() as u128;
+    let names = entry.names();
+    let hidden = entry.hidden();
+    let recorded = names.len() as u128 + hidden.len() as u128;
     !source_changed
-        && are_known(graph, explicit, entry.names(), entry.hidden())
+        && are_known(graph, explicit, names, hidden)
         && recorded == explicit.len() as u128 + hidden_count(graph, node) as u128
 }
 
@@ -105,24 +107,24 @@ fn pass_marks(looks: &[Option<FileLook>], kept: &mut Kept<'_>)
     }
 }
 
-/// The marks of the prerequisites of a node by this entry, where these are left behind the marks of what its recipe makes.
+/// The marks of the prerequisites of a node by this entry, where these are left behind the marks of what its recipe makes, and it is
+/// known whether it has its prerequisites as they are.
 pub(crate) fn marks_left<'g>(
     graph: &Graph,
     node: usize,
     entry: &PackedEntry,
-    source_changed: bool,
+    recorded: bool,
     left: Kept<'g>,
 ) -> Kept<'g>
-    requires node { node < length graph.now.nodes.items }
-    requires source { source_changed ≡ (noted_in graph.now node entry.now).source_changed }
+    requires recorded { recorded ≡ is_as_recorded graph.now node entry.now }
     requires left { left ≡ marks_behind (looks_made graph.now node) (noted_in graph.now node entry.now).kept }
     ensures { result ≡ marks_in graph.now node entry.now }
 {
-    // Where no marks are kept, names need not be compared.
-    if marks_text(entry).is_none() {
+    if recorded {
         return left;
     }
-    if has_same_names(graph, node, entry, source_changed) {
+    // Where no marks are kept, names say nothing of them.
+    if marks_text(entry).is_none() {
         return left;
     }
     Kept::nothing(left.other)
@@ -140,7 +142,8 @@ pub fn marks_of(graph: &Graph, node: usize) -> Kept<'_>
         source_changed,
         mut kept,
     } = noted_in(graph, node, entry);
+    let recorded = is_as_recorded(graph, node, entry, source_changed);
     let _own = kept.take_mark();
     pass_marks(looks_beside(graph, node), &mut kept);
-    marks_left(graph, node, entry, source_changed, kept)
+    marks_left(graph, node, entry, recorded, kept)
 }

@@ -5,7 +5,7 @@ ghost use Rattle.mk_seen.specs.Nodes.{entry_of, hidden_of};
 ghost use Rattle.mk_seen.specs.Seen.{seen_at, seen_hard, seen_hidden, seen_of, shown};
 
 use crate::looks::{look_from, look_of, looks_beside};
-use crate::marks::{marks_left, noted_in};
+use crate::marks::{is_as_recorded, marks_left, noted_in};
 use crate::nodes::{entry_of, is_marked, name_of, stamp_of};
 use mk_marks::{Kept, Noted};
 use mk_nodes::{FileLook, Graph};
@@ -217,7 +217,8 @@ fn files_with<'g>(
         mut kept,
     } = noted_in(graph, node, entry);
     let files = files_of(alloc, graph, node, &mut kept)?;
-    let left = marks_left(graph, node, entry, source_changed, kept);
+    let recorded = is_as_recorded(graph, node, entry, source_changed);
+    let left = marks_left(graph, node, entry, recorded, kept);
     let prerequisites = prerequisites_of(alloc, graph, marks, node, left)?;
     Ok(SeenFiles {
         source_changed,
