@@ -4,10 +4,12 @@ ghost use Rattle.std.specs.Option.{option_copied};
 ghost use Rattle.mk_nodes.specs.Node.{hidden_by};
 ghost use Rattle.mk_seen.specs.Marks.{has_same_names, is_as_recorded, looks_made, marks_behind, marks_in, marks_of, marks_text, noted_in, source_name};
 ghost use Rattle.mk_seen.specs.Nodes.{hidden_of};
+ghost use Rattle.st_records.specs.Parts.{names_known};
 
 use crate::looks::looks_beside;
 use crate::names::are_known;
 use crate::nodes::{entry_of, name_of};
+use byte_strings::Iter;
 use mk_marks::{Kept, Noted, note_of};
 use mk_nodes::{FileLook, Graph, Node};
 use mk_verdict::Mark;
@@ -25,14 +27,15 @@ fn source_name(graph: &Graph, node: usize) -> Option<&[u8]>
     }
 }
 
-/// The text of the marks of an entry, if it has any.
-fn marks_text(entry: &PackedEntry) -> Option<&[u8]>
-    ensures { option_copied result ≡ marks_text entry.now.explicit }
+/// The text of the marks of an entry, if it has any, and its explicit prerequisites, as far as they are known.
+fn text_and_names(entry: &PackedEntry) -> (Option<&[u8]>, Iter<'_>)
+    ensures text { option_copied result.0 ≡ marks_text entry.now.explicit }
+    ensures names { result.1 ≡ names_known entry.now.explicit }
 {
     match entry.lend() {
-        Named::Unknown => None,
-        Named::Known(_names) => None,
-        Named::Marked(_names, text) => Some(text),
+        Named::Unknown => (None, Iter::empty()),
+        Named::Known(names) => (None, names),
+        Named::Marked(names, text) => (Some(text), names),
     }
 }
 
@@ -41,11 +44,12 @@ pub(crate) fn noted_in<'g>(graph: &'g Graph, node: usize, entry: &'g PackedEntry
     requires { node < length graph.now.nodes.items }
     ensures { result ≡ noted_in graph.now node entry.now }
 {
+    let (text, names) = text_and_names(entry);
     note_of(
-        marks_text(entry),
+        text,
         source_name(graph, node),
         looks_beside(graph, node).len(),
-        entry.names().len(),
+        names.len(),
         entry.hidden().len(),
     )
 }
@@ -70,13 +74,19 @@ fn hidden_count(graph: &Graph, node: usize) -> usize
 }
 
 /// Whether an entry has the prerequisites of a node as they are now.
-fn has_same_names(graph: &Graph, node: usize, entry: &PackedEntry, source_changed: bool) -> bool
+fn has_same_names(
+    graph: &Graph,
+    node: usize,
+    entry: &PackedEntry,
+    names: Iter<'_>,
+    source_changed: bool,
+) -> bool
     requires node { node < length graph.now.nodes.items }
+    requires names { names ≡ names_known entry.now.explicit }
     requires source { source_changed ≡ (noted_in graph.now node entry.now).source_changed }
     ensures { result ≡ has_same_names graph.now node entry.now }
 {
     let explicit = graph.explicit(node);
-    let names = entry.names();
     let hidden = entry.hidden();
     let recorded = names.len() as u128 + hidden.len() as u128;
     !source_changed
@@ -95,7 +105,8 @@ pub(crate) fn is_as_recorded(
     requires source { source_changed ≡ (noted_in graph.now node entry.now).source_changed }
     ensures { result ≡ is_as_recorded graph.now node entry.now }
 {
-    marks_text(entry).is_some() && has_same_names(graph, node, entry, source_changed)
+    let (text, names) = text_and_names(entry);
+    text.is_some() && has_same_names(graph, node, entry, names, source_changed)
 }
 
 /// Takes the marks of the files that are made beside a node.
@@ -124,7 +135,8 @@ pub(crate) fn marks_left<'g>(
         return left;
     }
     // Where no marks are kept, names say nothing of them.
-    if marks_text(entry).is_none() {
+    let (text, _names) = text_and_names(entry);
+    if text.is_none() {
         return left;
     }
     Kept::nothing(left.other)

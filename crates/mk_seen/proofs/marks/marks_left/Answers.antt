@@ -33,7 +33,7 @@ returns-then-recorded c =
 pub returns-then-is_none : goal.returns-then-is_none
 returns-then-is_none c =
     unmarked c.args.graph.now c.args.node c.args.entry.now c.args.left c.requires.left
-    (sym c.marks_text.ensures ∙ ap option_copied (none_by c.marks_text.result c.is_none.result c.is_none.ensures c.if-is_none.true))
+    (sym c.text_and_names-names.ensures.text ∙ ap option_copied (none_by c.text_and_names-names.result.0 c.is_none.result c.is_none.ensures c.if-is_none.true))
 
 pub returns : goal.returns
 returns c =
@@ -41,4 +41,4 @@ returns c =
     ∙ otherwise_named c.args.graph.now c.args.node c.args.entry.now c.args.left c.requires.left
     (second_not (is_some (marks_text c.args.entry.now.explicit)) (has_same_names c.args.graph.now c.args.node c.args.entry.now)
     (sym c.requires.recorded ∙ c.if-recorded.false)
-    (ap is_some (sym c.marks_text.ensures) ∙ some_copied c.marks_text.result ∙ c.is_none.ensures ∙ ap not c.if-is_none.false))
+    (ap is_some (sym c.text_and_names-names.ensures.text) ∙ some_copied c.text_and_names-names.result.0 ∙ c.is_none.ensures ∙ ap not c.if-is_none.false))
