@@ -51,6 +51,7 @@ if [ "$failed" -eq 0 ]; then
     run_part python3 scripts/read_beside_runs.py
     run_part bash scripts/kill_runs.sh
     run_part env SECONDS_LEFT=8 python3 scripts/stop_runs.py 72
+    run_part python3 scripts/recordings.py
     run_part python3 scripts/random_histories.py
     run_part python3 scripts/random_turns.py crates/dmk/out/dmk 1 4
     run_part python3 scripts/tools.py
