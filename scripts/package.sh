@@ -1,7 +1,8 @@
 #!/bin/bash
 # package.sh [FOLDER]: makes dmk_VERSION_ARCHITECTURE.deb and dmk-VERSION-linux-MACHINE.tar.gz in FOLDER (bin/packages) of the
 # programs in bin/, or in the folder that PROGRAMS names. The version is that of the programs, and has to be CHANGELOG's newest;
-# the maintainer is git's user. The same files and the same maintainer give the same packages, byte for byte.
+# while that begins with 'Unreleased', day and name of the last commit stand behind it. The maintainer is git's user. The same files
+# and the same maintainer give the same packages, byte for byte.
 set -eu -o pipefail
 umask 022
 export LC_ALL=C TZ=UTC
@@ -25,7 +26,13 @@ for name in dmk_state dmk_tool; do
     [ "$("$programs/$name" --version)" = "$name $version" ] || die "dmk is $version, and $name isn't"
 done
 released=$(sed -n "s/^## $version, //p" CHANGELOG.md)
-[ "$(grep -m 1 '^## ' CHANGELOG.md)" = "## $version, $released" ] || die "dmk is $version, and CHANGELOG's newest version isn't"
+newest=$(grep -m 1 '^## ' CHANGELOG.md)
+if [ "$newest" = "## Unreleased" ]; then
+    commit() { git log -1 --date="format-local:$1" --format="$2"; }
+    released=$(commit '%-d %B %Y' %cd) version=$version+$(commit %Y%m%d %cd.%h) || die "there is no commit here, and no release"
+elif [ "$newest" != "## $version, $released" ]; then
+    die "dmk is $version, and CHANGELOG's newest version isn't"
+fi
 maintainer="$(git config user.name) <$(git config user.email)>" || die "git has no user.name and user.email for the maintainer"
 architecture=$(dpkg --print-architecture)
 export SOURCE_DATE_EPOCH
