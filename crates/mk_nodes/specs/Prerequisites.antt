@@ -16,6 +16,7 @@ use Rattle.mk_rule_lines.specs.declared.rule_line.RuleLine.{RuleLine}
 use Rattle.mk_short_names.specs.Short.{is_short}
 use Rattle.mk_nodes.specs.Chain.{any_wide, source_in, steps_of}
 use Rattle.mk_nodes.specs.declared.file_look.FileLook.{FileLook}
+use Rattle.mk_nodes.specs.Look.{is_taken_as_old}
 use Rattle.mk_nodes.specs.Wanted.{from_wanted}
 
 -- what a graph is made of: the rule lines, what looks at names tell as the lines let them be seen, and what the state has of each
@@ -81,9 +82,13 @@ runs_for inputs rule name = option_map_or (is_run_of rule) (found_source inputs 
 abbrev pub is_led : Inputs → Source → Bool
 is_led inputs source = option_map_or (runs_for inputs source.rule) source.leader true
 
--- what an implicit rule makes the name from
+-- what is found of a name, where the rule is run for it or for the first of what that makes
+abbrev pub led_source : Inputs → (name : List ℕ) → Option Source
+led_source inputs name = option_and_then (λ source. if is_led inputs source then Some source else None) (found_source inputs name)
+
+-- what an implicit rule makes the name from. The rules of what is taken as old are ignored (GNU make manual, "Options Summary", -o)
 abbrev pub implicit_source : Inputs → (name : List ℕ) → Option Source
-implicit_source inputs name = option_and_then (λ source. if is_led inputs source then Some source else None) (found_source inputs name)
+implicit_source inputs name = if is_taken_as_old (inputs.looks name) then None else led_source inputs name
 
 -- the line whose recipe is run for a name with this source; None where it is run for another name
 abbrev pub run_by : Source → Option ℕ

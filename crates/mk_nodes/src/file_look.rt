@@ -1,5 +1,6 @@
 //! What a look at a name tells of its file.
-ghost use Rattle.std.specs.Prelude.{◌≡◌, ◌++◌, ◌∷◌, [], OnOk};
+ghost use Rattle.std.specs.Prelude.{◌≡◌, ◌++◌, ◌∷◌, [], Some, true, OnOk};
+ghost use Rattle.mk_nodes.specs.Look.{is_taken_as_old};
 
 use std::alloc::{AllocError, Global};
 use std::marker::Model;
@@ -11,6 +12,31 @@ pub struct FileLook {
     pub time: i128,
     /// Of an ordinary file the number of its bytes, modulo 2^32; None of a folder or a device.
     pub size: Option<u32>,
+}
+
+/// The time of what is taken as old, which no file has: nothing was made earlier.
+pub const OLD_TIME: i128 = i128::MIN;
+
+impl FileLook {
+    /// What a look tells of a file that is taken as old, whatever lies there.
+    pub fn taken_as_old() -> FileLook
+        ensures { is_taken_as_old (Some result) ≡ true }
+    {
+        FileLook {
+            time: OLD_TIME,
+            size: Some(0),
+        }
+    }
+}
+
+/// Whether a look tells of a file that is taken as old.
+pub fn is_taken_as_old(look: Option<FileLook>) -> bool
+    ensures { result ≡ is_taken_as_old look }
+{
+    match look {
+        Some(file) => file.size.is_some() && file.time == OLD_TIME,
+        None => false,
+    }
 }
 
 /// What looks at some names tell, in the order of the names: None where there is no file.

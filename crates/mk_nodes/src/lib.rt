@@ -14,7 +14,7 @@ mod short_number;
 mod stamp;
 mod unfinished;
 
-pub use file_look::{FileLook, FileLooks};
+pub use file_look::{FileLook, FileLooks, OLD_TIME, is_taken_as_old};
 pub use graph::{Graph, Node};
 pub use group::Group;
 pub use hidden_numbers::HiddenNumbers;

@@ -25,7 +25,7 @@ use Rattle.mk_rule_lines.specs.declared.rule_line.RuleLine.{RuleLine}
 use Rattle.mk_nodes.specs.Prerequisites.{distinct, hidden_in, is_unfinished}
 use Rattle.mk_nodes.specs.declared.graph.Graph.{Graph}
 use Rattle.mk_marks.specs.declared.noted.Noted.{Noted}
-use Rattle.mk_seen.specs.Marks.{look_of, with_marks, marks_of, hard_marked}
+use Rattle.mk_seen.specs.Marks.{look_of, mark_counted, with_marks, marks_of, hard_marked}
 use Rattle.mk_seen.specs.Nodes.{stamp_of, made_of, entry_of, stem_of, source_of, is_marked}
 use Rattle.st_records.specs.declared.record.Entry.{Entry}
 use Rattle.mk_plan.specs.ExplicitWords.{once_of, first_of, is_implicit, source_word, stem_left, stem_word}
@@ -46,7 +46,7 @@ pub use Rattle.mk_plan.proofs.SeenLemmas.{AreAlike}
 
 abbrev IsNewerBy : (marks : List Bool) (m : ℕ) (mark : Mark) (cut : Bool) (stamp target : Option ℤ) (look : Look) → Type 0
 IsNewerBy marks m mark cut stamp target look =
-    (target ≡ None) ⊎ (IsTrue cut ⊎ (IsLater stamp target ⊎ (IsTrue (is_marked marks m) ⊎ Differs mark look)))
+    (target ≡ None) ⊎ (IsTrue cut ⊎ (IsLater stamp target ⊎ (IsTrue (is_marked marks m) ⊎ Differs (mark_counted look mark) look)))
 
 same_cut : (a b : Graph) → AreAlike a b → (n : ℕ) → was_cut a n ≡ was_cut b n
 same_cut a b same n =

@@ -13,7 +13,7 @@ use Rattle.mk_verdict.specs.Verdict.{IsLater}
 use Rattle.mk_verdict.specs.declared.mark.Mark.{Mark}
 use Rattle.mk_verdict.proofs.MarkLemmas.{differs_decides}
 use Rattle.mk_nodes.specs.declared.graph.Graph.{Graph}
-use Rattle.mk_seen.specs.Marks.{look_of, hard_marked}
+use Rattle.mk_seen.specs.Marks.{look_of, mark_counted, hard_marked}
 use Rattle.mk_seen.specs.Nodes.{stamp_of, made_of, is_marked}
 use Rattle.mk_plan.specs.Nodes.{was_cut, IsNewer, AreNewer, nothing, named, left_out, EndsRemade}
 use Rattle.mk_plan.specs.Tests.{is_newer_word, newer_words, ends_remade}
@@ -52,13 +52,13 @@ module _ (graph : Graph) (marks : List Bool) (n : ℕ) where
   newer_decides : (p : ℕ × Mark) → Decides (is_newer_word graph marks n p) (IsNewer graph marks n p)
   newer_decides (m, mark) =
       Decides-or (is_none (made_of graph n))
-      (was_cut graph n || (is_later (stamp_of graph m) (made_of graph n) || (is_marked marks m || mark_differs mark (look_of graph m))))
+      (was_cut graph n || (is_later (stamp_of graph m) (made_of graph n) || (is_marked marks m || mark_differs (mark_counted (look_of graph m) mark) (look_of graph m))))
       (absent_decides (made_of graph n))
-      (Decides-or (was_cut graph n) (is_later (stamp_of graph m) (made_of graph n) || (is_marked marks m || mark_differs mark (look_of graph m)))
+      (Decides-or (was_cut graph n) (is_later (stamp_of graph m) (made_of graph n) || (is_marked marks m || mark_differs (mark_counted (look_of graph m) mark) (look_of graph m)))
       ((λ e. e), λ e. e)
-      (Decides-or (is_later (stamp_of graph m) (made_of graph n)) (is_marked marks m || mark_differs mark (look_of graph m))
+      (Decides-or (is_later (stamp_of graph m) (made_of graph n)) (is_marked marks m || mark_differs (mark_counted (look_of graph m) mark) (look_of graph m))
       (later_decides (stamp_of graph m) (made_of graph n))
-      (Decides-or (is_marked marks m) (mark_differs mark (look_of graph m)) ((λ e. e), λ e. e) (differs_decides mark (look_of graph m)))))
+      (Decides-or (is_marked marks m) (mark_differs (mark_counted (look_of graph m) mark) (look_of graph m)) ((λ e. e), λ e. e) (differs_decides (mark_counted (look_of graph m) mark) (look_of graph m)))))
 
   -- the words that these give
   abbrev pub words_by : (ps : List (ℕ × Mark)) → List (List ℕ)

@@ -15,7 +15,7 @@ use Rattle.mk_marks.specs.Marks.{nothing_kept}
 use Rattle.mk_marks.specs.Noted.{noted}
 use Rattle.mk_marks.specs.declared.kept.Kept.{Kept}
 use Rattle.mk_marks.specs.declared.noted.Noted.{Noted}
-use Rattle.mk_seen.specs.Marks.{look_from, look_of, looks_beside, looks_made, with_marks, marks_behind, marks_text, source_name, noted_in, nothing_noted, noted_of, has_same_names, is_as_recorded, compared_in, compared_of, marks_in, marks_of, made_file, files_of}
+use Rattle.mk_seen.specs.Marks.{look_from, look_of, looks_beside, looks_made, mark_counted, with_marks, marks_behind, marks_text, source_name, noted_in, nothing_noted, noted_of, has_same_names, is_as_recorded, compared_in, compared_of, marks_in, marks_of, made_file, files_of}
 use Rattle.mk_seen.specs.Names.{are_known}
 use Rattle.mk_seen.specs.Nodes.{stamp_of, made_of, entry_of, hidden_of, stem_of, source_of, explicit_of, is_marked}
 use Rattle.mk_seen.specs.Seen.{Seen, seen_at, seen_hard, seen_hidden, seen_of}
@@ -138,7 +138,7 @@ module _ (a b : Graph) (same : AreAlike a b) (marks : List Bool) (n : ℕ) where
     has_rule = true;
     is_remade = is_marked marks m;
     look = look;
-    mark = mark;
+    mark = mark_counted look mark;
   }
 
   same_seen : (is_hidden : Bool) (h : Option ℕ) (mark : Mark) → seen_at a marks is_hidden h mark ≡ seen_at b marks is_hidden h mark

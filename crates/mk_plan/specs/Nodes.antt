@@ -9,7 +9,7 @@ use Rattle.mk_verdict.specs.declared.mark.Mark.{Mark}
 use Rattle.mk_profile.specs.Profile.{is_wide}
 use Rattle.mk_nodes.specs.Prerequisites.{is_unfinished}
 use Rattle.mk_nodes.specs.declared.graph.Graph.{Graph}
-use Rattle.mk_seen.specs.Marks.{look_of}
+use Rattle.mk_seen.specs.Marks.{look_of, mark_counted}
 use Rattle.mk_seen.specs.Nodes.{stamp_of, made_of, entry_of}
 use Rattle.mk_plan.specs.Parts.{language_of}
 pub use Rattle.mk_seen.specs.Nodes.{made_beside, explicit_of, is_marked}
@@ -28,7 +28,7 @@ IsNewer graph marks n (m, mark) =
     ⊎ (IsTrue (was_cut graph n)
     ⊎ (IsLater (stamp_of graph m) (made_of graph n)
     ⊎ (IsTrue (is_marked marks m)
-    ⊎ Differs mark (look_of graph m))))
+    ⊎ Differs (mark_counted (look_of graph m) mark) (look_of graph m))))
 
 -- the words that these prerequisites give `$?` of the target n: the names of those that are newer, in their order
 pub data AreNewer (graph : Graph) (marks : List Bool) (n : ℕ) : (prerequisites : List (ℕ × Mark)) → (words : List (List ℕ)) → Type 0 where

@@ -6,14 +6,14 @@ use Rattle.mk_names.specs.Names.{name_at}
 use Rattle.mk_verdict.specs.Tests.{is_later, mark_differs}
 use Rattle.mk_verdict.specs.declared.mark.Mark.{Mark}
 use Rattle.mk_nodes.specs.declared.graph.Graph.{Graph}
-use Rattle.mk_seen.specs.Marks.{look_of, hard_marked}
+use Rattle.mk_seen.specs.Marks.{look_of, mark_counted, hard_marked}
 use Rattle.mk_seen.specs.Nodes.{stamp_of, made_of, is_marked}
 use Rattle.mk_plan.specs.Nodes.{was_cut}
 
 -- the prerequisite m with this mark is newer than a target that was made then, or whose recipe was cut off
 abbrev pub is_newer_than : Graph → (marks : List Bool) → (made : Option ℤ) → (cut : Bool) → ℕ × Mark → Bool
 is_newer_than graph marks made cut (m, mark) =
-    is_none made || (cut || (is_later (stamp_of graph m) made || (is_marked marks m || mark_differs mark (look_of graph m))))
+    is_none made || (cut || (is_later (stamp_of graph m) made || (is_marked marks m || mark_differs (mark_counted (look_of graph m) mark) (look_of graph m))))
 
 -- than the target n
 abbrev pub is_newer_word : Graph → (marks : List Bool) → (n : ℕ) → ℕ × Mark → Bool

@@ -8,7 +8,9 @@ ghost use Rattle.mk_plan.specs.Nodes.{was_cut};
 ghost use Rattle.mk_plan.specs.Tests.{is_newer_than, newer_words, ends_remade};
 
 use mk_nodes::{Graph, is_unfinished};
-use mk_seen::{entry_of, is_later, is_marked, look_of, made_of, marks_of, name_of, stamp_of};
+use mk_seen::{
+    entry_of, is_later, is_marked, look_of, made_of, mark_counted, marks_of, name_of, stamp_of,
+};
 use mk_verdict::Mark;
 use std::alloc::{AllocError, Global};
 
@@ -31,11 +33,12 @@ pub(crate) fn is_newer_than(
 ) -> bool
     ensures { result ≡ is_newer_than graph.now marks.now made was_cut (prerequisite, mark) }
 {
+    let look = look_of(graph, prerequisite);
     made.is_none()
         || was_cut
         || is_later(stamp_of(graph, prerequisite), made)
         || is_marked(marks, prerequisite)
-        || mark.differs(look_of(graph, prerequisite))
+        || mark_counted(look, mark).differs(look)
 }
 
 /// The words of `$?` for a node.

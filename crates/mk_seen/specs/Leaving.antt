@@ -11,7 +11,7 @@ use Rattle.mk_verdict.specs.Tests.{is_later, mark_differs, is_timed}
 use Rattle.mk_verdict.specs.declared.mark.Look.{Look}
 use Rattle.mk_verdict.specs.declared.mark.Mark.{Mark}
 use Rattle.mk_marks.specs.declared.kept.Kept.{Kept}
-use Rattle.mk_seen.specs.Marks.{look_of, looks_made, with_marks, marks_behind, noted_in, noted_of, marks_of, compared_in}
+use Rattle.mk_seen.specs.Marks.{look_of, looks_made, mark_counted, with_marks, marks_behind, noted_in, noted_of, marks_of, compared_in}
 use Rattle.mk_seen.specs.Names.{are_same}
 use Rattle.mk_seen.specs.Nodes.{stamp_of, made_of, hidden_of, is_marked}
 use Rattle.st_records.specs.Parts.{names_recorded}
@@ -26,13 +26,14 @@ leaves_file graph made m mark = not (is_timed mark && is_later (stamp_of graph m
 
 -- a hard prerequisite is none
 abbrev pub leaves_hard : (keeping : Bool) → Graph → (marks : List Bool) → (made : Option ℤ) → ℕ × Mark → Bool
-leaves_hard keeping graph marks made (m, mark) = leaves_file graph made m (mark_of keeping mark) && not (is_marked marks m)
+leaves_hard keeping graph marks made (m, mark) =
+    leaves_file graph made m (mark_of keeping (mark_counted (look_of graph m) mark)) && not (is_marked marks m)
 
 -- nor is a hidden one, but for its name
 abbrev pub leaves_hidden : (keeping : Bool) → Graph → (marks : List Bool) → (made : Option ℤ) → Option ℕ × Mark → Bool
 leaves_hidden keeping graph marks made (None, mark) = not keeping
 leaves_hidden keeping graph marks made (Some m, mark) =
-    leaves_file graph made m (mark_of keeping mark) && not (is_marked marks m && not graph.soft_dropped)
+    leaves_file graph made m (mark_of keeping (mark_counted (look_of graph m) mark)) && not (is_marked marks m && not graph.soft_dropped)
 
 -- its name is UTF-8, where it is a node
 abbrev pub has_text_name : Graph → Option ℕ → Bool
@@ -41,7 +42,7 @@ has_text_name graph (Some m) = is_utf8 (name_at graph.names m)
 
 -- a file that a recipe makes is the one that it has left, as far as marks tell
 abbrev pub leaves_made : (keeping : Bool) → Look × Mark → Bool
-leaves_made keeping (look, mark) = not (mark_differs (mark_of keeping mark) look)
+leaves_made keeping (look, mark) = not (mark_differs (mark_of keeping (mark_counted look mark)) look)
 
 -- no prerequisite of node n is a reason by its file, where these are their marks
 abbrev pub leaves_prerequisites : (keeping : Bool) → Graph → (marks : List Bool) → (n : ℕ) → Kept → Bool

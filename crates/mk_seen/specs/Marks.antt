@@ -1,6 +1,7 @@
 -- What the state has of each file of a node, beside what a look at it tells now. Own.
 use Rattle.std.specs.Prelude.{ℕ, ◌+◌, ◌==◌, ℤ, Bool, not, ◌&&◌, false, if◌then◌else◌, List, [], ◌∷◌, length, map, Option, Some, None, is_some, option_map, option_and_then}
 use Rattle.std.specs.Option.{option_map_or}
+use Rattle.std.specs.Ordering.{int_eq}
 use Rattle.mk_graph.specs.Edges.{row}
 use Rattle.mk_names.specs.Names.{name_at}
 use Rattle.mk_marks.specs.Marks.{first_mark, later_marks, nothing_kept}
@@ -9,6 +10,7 @@ use Rattle.mk_marks.specs.declared.kept.Kept.{Kept}
 use Rattle.mk_marks.specs.declared.noted.Noted.{Noted}
 use Rattle.mk_nodes.specs.Node.{source_in}
 use Rattle.mk_nodes.specs.declared.file_look.FileLook.{FileLook}
+use Rattle.mk_nodes.specs.declared.file_look.TheConstants.{OLD_TIME}
 use Rattle.mk_nodes.specs.declared.graph.Graph.{Graph}
 use Rattle.mk_verdict.specs.declared.mark.Look.{Look}
 use Rattle.mk_verdict.specs.declared.mark.Look.TheVariants.{NoFile, Other, File}
@@ -112,8 +114,15 @@ marks_of graph n = option_map_or (marks_in graph n) (entry_of graph n) (nothing_
 
 -- ---- files with their marks
 
+-- the mark of a file by which it is judged, where a look at it tells this: what is taken as old has none, and so is no reason to make
+-- anything, since no file was made earlier (GNU make manual, "Options Summary", -o)
+abbrev pub mark_counted : Look → Mark → Mark
+mark_counted NoFile mark = mark
+mark_counted Other mark = mark
+mark_counted (File time size) mark = if int_eq time OLD_TIME then NotKept else mark
+
 abbrev pub made_file : Look × Mark → MadeFile
-made_file (look, mark) = record { look = look; mark = mark }
+made_file (look, mark) = record { look = look; mark = mark_counted look mark }
 
 -- what the recipe of node n makes
 abbrev pub files_of : Graph → (n : ℕ) → List MadeFile

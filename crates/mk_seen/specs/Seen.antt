@@ -6,7 +6,7 @@ use Rattle.mk_verdict.specs.declared.mark.Look.{Look}
 use Rattle.mk_verdict.specs.declared.mark.Look.TheVariants.{NoFile}
 use Rattle.mk_verdict.specs.declared.mark.Mark.{Mark}
 use Rattle.mk_verdict.specs.declared.verdict.Prerequisite.{Prerequisite}
-use Rattle.mk_seen.specs.Marks.{look_of, hard_marked, hidden_marked}
+use Rattle.mk_seen.specs.Marks.{look_of, mark_counted, hard_marked, hidden_marked}
 use Rattle.mk_seen.specs.Nodes.{stamp_of, is_marked}
 
 -- a prerequisite, with its name as a list of bytes
@@ -22,7 +22,7 @@ pub record Seen : Type 0 where
 abbrev pub shown : Prerequisite → Seen
 shown p = record { name = p.name.now; stamp = p.stamp; is_hidden = p.is_hidden; has_rule = p.has_rule; is_remade = p.is_remade; look = p.look; mark = p.mark }
 
--- a prerequisite of the graph, with its mark. One that is a node is there, by a file or by a rule; one that is gone has neither
+-- a prerequisite of the graph, with its mark, where that counts. One that is a node is there, by a file or by a rule; one that is gone has neither
 abbrev pub seen_at : Graph → (marks : List Bool) → (is_hidden : Bool) → Option ℕ → Mark → Seen
 seen_at graph marks is_hidden (Some m) mark = record {
   name = name_at graph.names m;
@@ -31,7 +31,7 @@ seen_at graph marks is_hidden (Some m) mark = record {
   has_rule = true;
   is_remade = is_marked marks m;
   look = look_of graph m;
-  mark = mark;
+  mark = mark_counted (look_of graph m) mark;
 }
 seen_at graph marks is_hidden None mark =
     record { name = []; stamp = None; is_hidden = is_hidden; has_rule = false; is_remade = false; look = NoFile; mark = mark }

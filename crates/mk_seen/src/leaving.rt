@@ -3,11 +3,11 @@ ghost use Rattle.std.specs.Prelude.{◌≡◌, ◌<◌, ◌||◌, ◌&&◌, true
 ghost use Rattle.std.specs.List.{list_all};
 ghost use Rattle.mk_verdict.specs.Marks.{mark_of};
 ghost use Rattle.mk_seen.specs.Leaving.{leaves_file, leaves_hard, leaves_hidden, leaves_made, leaves_prerequisites, leaves_all, has_text_name, is_explicit, is_done, is_kept};
-ghost use Rattle.mk_seen.specs.Marks.{is_as_recorded, look_from, looks_made, marks_behind, noted_in, with_marks};
+ghost use Rattle.mk_seen.specs.Marks.{is_as_recorded, look_from, look_of, looks_made, mark_counted, marks_behind, noted_in, with_marks};
 ghost use Rattle.mk_seen.specs.Nodes.{entry_of, hidden_of, made_of};
 ghost use Rattle.mk_seen.specs.TextNames.{HasTextNames};
 
-use crate::looks::{look_from, look_of, looks_beside};
+use crate::looks::{look_from, look_of, looks_beside, mark_counted};
 use crate::marks::{is_as_recorded, marks_left, noted_in};
 use crate::names::are_names_of;
 use crate::nodes::{is_later, is_marked, made_of, name_of, stamp_of};
@@ -18,11 +18,15 @@ use mk_verdict::{Look, Mark};
 use st_packed::PackedEntry;
 use st_records::Phase;
 
-/// The mark where state is kept, else none.
-fn counted(keeping: bool, mark: Mark) -> Mark
-    ensures { result ≡ mark_of keeping mark }
+/// The mark of a file with this look where state is kept, else none.
+fn counted(keeping: bool, look: Look, mark: Mark) -> Mark
+    ensures { result ≡ mark_of keeping (mark_counted look mark) }
 {
-    if keeping { mark } else { Mark::NotKept }
+    if keeping {
+        mark_counted(look, mark)
+    } else {
+        Mark::NotKept
+    }
 }
 
 /// Whether the file of a prerequisite is no reason to make again what was made then.
@@ -44,7 +48,8 @@ fn leaves_hard(
 ) -> bool
     ensures { result ≡ leaves_hard keeping graph.now marks.now made (node, mark) }
 {
-    leaves_file(graph, made, node, counted(keeping, mark)) && !is_marked(marks, node)
+    let mark = counted(keeping, look_of(graph, node), mark);
+    leaves_file(graph, made, node, mark) && !is_marked(marks, node)
 }
 
 /// Whether a hidden prerequisite is none, but for its name.
@@ -61,8 +66,8 @@ fn leaves_hidden(
     match hidden {
         None => !keeping,
         Some(node) => {
-            leaves_file(graph, made, node, counted(keeping, mark))
-                && !(is_marked(marks, node) && !graph.soft_dropped)
+            let mark = counted(keeping, look_of(graph, node), mark);
+            leaves_file(graph, made, node, mark) && !(is_marked(marks, node) && !graph.soft_dropped)
         }
     }
 }
@@ -133,7 +138,7 @@ fn leave_prerequisites(
 fn leaves_made(keeping: bool, look: Look, mark: Mark) -> bool
     ensures { result ≡ leaves_made keeping (look, mark) }
 {
-    !counted(keeping, mark).differs(look)
+    !counted(keeping, look, mark).differs(look)
 }
 
 /// Whether the files that are made beside a node are those, by their marks, of which those behind stay.

@@ -14,7 +14,7 @@ mod text_names;
 
 pub use compared::compared_of;
 pub use leaving::gives_no_reason;
-pub use looks::look_of;
+pub use looks::{look_of, mark_counted};
 pub use marks::marks_of;
 pub use nodes::{
     entry_of, explicit_of, is_later, is_marked, made_beside, made_of, name_of, source_of, stamp_of,

@@ -1,9 +1,9 @@
 //! What looks at the files of a node tell, as a verdict takes it.
 ghost use Rattle.std.specs.Prelude.{◌≡◌};
-ghost use Rattle.mk_seen.specs.Marks.{look_from, look_of, looks_beside};
+ghost use Rattle.mk_seen.specs.Marks.{look_from, look_of, looks_beside, mark_counted};
 
-use mk_nodes::{FileLook, Graph};
-use mk_verdict::Look;
+use mk_nodes::{FileLook, Graph, OLD_TIME};
+use mk_verdict::{Look, Mark};
 
 pub(crate) fn look_from(file: Option<FileLook>) -> Look
     ensures { result ≡ look_from file }
@@ -40,5 +40,21 @@ pub(crate) fn looks_beside(graph: &Graph, node: usize) -> &[Option<FileLook>]
             None => &[],
         },
         None => &[],
+    }
+}
+
+/// The mark of a file by which it is judged, where a look at it tells this.
+pub fn mark_counted(look: Look, mark: Mark) -> Mark
+    ensures { result ≡ mark_counted look mark }
+{
+    match look {
+        Look::NoFile | Look::Other => mark,
+        Look::File { time, size: _ } => {
+            if time == OLD_TIME {
+                Mark::NotKept
+            } else {
+                mark
+            }
+        }
     }
 }

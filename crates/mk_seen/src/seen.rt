@@ -4,7 +4,7 @@ ghost use Rattle.mk_seen.specs.Marks.{files_of, look_from, looks_made, made_file
 ghost use Rattle.mk_seen.specs.Nodes.{entry_of, hidden_of};
 ghost use Rattle.mk_seen.specs.Seen.{seen_at, seen_hard, seen_hidden, seen_of, shown};
 
-use crate::looks::{look_from, look_of, looks_beside};
+use crate::looks::{look_from, look_of, looks_beside, mark_counted};
 use crate::marks::{is_as_recorded, marks_left, noted_in};
 use crate::nodes::{entry_of, is_marked, name_of, stamp_of};
 use mk_marks::{Kept, Noted};
@@ -43,14 +43,15 @@ fn node_seen<'g>(
 ) -> Prerequisite<'g>
     ensures { shown result ≡ seen_at graph.now marks.now is_hidden (Some node) mark }
 {
+    let look = look_of(graph, node);
     Prerequisite {
         name: name_of(graph, node),
         stamp: stamp_of(graph, node),
         is_hidden,
         has_rule: true,
         is_remade: is_marked(marks, node),
-        look: look_of(graph, node),
-        mark,
+        look,
+        mark: mark_counted(look, mark),
     }
 }
 
@@ -136,6 +137,16 @@ fn prerequisites_of<'g>(
     Ok(found)
 }
 
+/// A file with this look and mark.
+fn made_file(look: Look, mark: Mark) -> MadeFile
+    ensures { result ≡ made_file (look, mark) }
+{
+    MadeFile {
+        look,
+        mark: mark_counted(look, mark),
+    }
+}
+
 /// Adds the files that are made beside a node with their marks, of which those behind stay.
 fn push_beside(
     files: &mut Vec<MadeFile>,
@@ -147,10 +158,7 @@ fn push_beside(
 {
     for look in looks {
         let mark = kept.take_mark();
-        files.push(MadeFile {
-            look: look_from(*look),
-            mark,
-        })?;
+        files.push(made_file(look_from(*look), mark))?;
     }
     Ok(())
 }
@@ -167,10 +175,7 @@ fn files_of(
 {
     let mut files = Vec::new(alloc);
     let mark = kept.take_mark();
-    files.push(MadeFile {
-        look: look_of(graph, node),
-        mark,
-    })?;
+    files.push(made_file(look_of(graph, node), mark))?;
     push_beside(&mut files, looks_beside(graph, node), kept)?;
     Ok(files)
 }

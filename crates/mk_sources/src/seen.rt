@@ -220,6 +220,7 @@ fn searched<T: Tree>(
     requires numbers { numbers.now ≡ numbers_of rules.now.lines.now name.now }
     requires own { option_to_list own ≡ own_recipes rules.now.lines.now name.now }
     requires phony { phony ≡ is_phony rules.now.lines.now name.now }
+    requires seen { (looks : List ℕ → Option FileLook) → T.allows tree.old looks → stamp.now ≡ seen_looks rules.now.lines.now looks name.now }
     ensures ruled { IfOk result (λ ruled. (looks : List ℕ → Option FileLook) → T.allows tree.new looks
         → stamp.now ≡ seen_looks rules.now.lines.now looks name.now
         → IsRuledIn (inputs_of rules.now.lines.now (map.get rules.now.state.now) looks) name.now left ruled) }
@@ -227,7 +228,7 @@ fn searched<T: Tree>(
     ensures fault { IfErr result (IsLookUpFault rules.now.targets.now (T.allows tree.new) (T.refuses tree.new) rules.now.forms.now rules.now.steps
         rules.now.lines.now (map.get rules.now.state.now) name.now) }
 {
-    let source = implicit_source(alloc, rules, tree, name, own, phony)?;
+    let source = implicit_source(alloc, rules, tree, name, own, phony, stamp.look())?;
     if source.is_none() && !rules.may_have_order_only(numbers) {
         drop(source);
         return Ok(plain(own, left)?);
@@ -250,6 +251,7 @@ fn ruled_of<T: Tree>(
     requires numbers { numbers.now ≡ numbers_of rules.now.lines.now name.now }
     requires own { option_to_list own ≡ own_recipes rules.now.lines.now name.now }
     requires phony { phony ≡ is_phony rules.now.lines.now name.now }
+    requires seen { (looks : List ℕ → Option FileLook) → T.allows tree.old looks → stamp.now ≡ seen_looks rules.now.lines.now looks name.now }
     ensures ruled { IfOk result (λ ruled. (looks : List ℕ → Option FileLook) → T.allows tree.new looks
         → stamp.now ≡ seen_looks rules.now.lines.now looks name.now
         → IsRuledIn (inputs_of rules.now.lines.now (map.get rules.now.state.now) looks) name.now left ruled) }

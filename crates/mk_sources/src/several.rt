@@ -1,20 +1,20 @@
 //! Rules of several targets: their further targets are made by the run for the first.
-ghost use Rattle.std.specs.Prelude.{◌≡◌, ◌&&◌, ◌==◌, ℕ, List, Option, Some, is_none, map, option_map, option_to_list, IfOk, IfErr};
+ghost use Rattle.std.specs.Prelude.{◌≡◌, ◌&&◌, ◌==◌, ℕ, List, Option, Some, is_none, option_map, option_to_list, map, IfOk, IfErr};
 ghost use Rattle.std.specs.FinMap as finmap;
 ghost use Rattle.mk_rule_lines.specs.Explicit.{is_phony};
-ghost use Rattle.mk_nodes.specs.Groups.{earlier, earliest, others_in, group_with};
-ghost use Rattle.mk_nodes.specs.Look.{time_of};
+ghost use Rattle.mk_nodes.specs.Groups.{earlier, earliest, others_in, group_with, times_counted};
+ghost use Rattle.mk_nodes.specs.Look.{is_taken_as_old, time_of};
 ghost use Rattle.mk_nodes.specs.declared.file_look.FileLook.{FileLook};
 ghost use Rattle.mk_sources.specs.Asked.{IsImplicitFault, IsFoundFault, IsOthersFault};
 ghost use Rattle.mk_sources.specs.Looks.{Looks};
-ghost use Rattle.mk_nodes.specs.Prerequisites.{inputs_of, own_recipes, seen_looks, implicit_source, is_led, is_run_of, runs_for};
+ghost use Rattle.mk_nodes.specs.Prerequisites.{inputs_of, own_recipes, seen_looks, implicit_source, led_source, is_led, is_run_of, runs_for};
 
 use crate::lookup::{found_source, seen_stamp};
 use crate::rules::Rules;
 use crate::tree::Tree;
 use byte_strings::ByteStrings;
 use mk_makefile::Source;
-use mk_nodes::{FileLook, FileLooks, Group};
+use mk_nodes::{FileLook, FileLooks, Group, is_taken_as_old};
 use mk_rule_lines::RuleFault;
 use std::alloc::Global;
 use std::boxed::Box;
@@ -71,9 +71,9 @@ fn is_led<T: Tree>(
     }
 }
 
-/// What an implicit rule makes the name from, where it isn't phony and no line has a recipe for it: `own` is the number of the
-/// line that has.
-pub(crate) fn implicit_source<T: Tree>(
+/// What is found of a name that isn't phony and for which no line has a recipe, where the rule is run for it or for the first of what
+/// that makes: `own` is the number of the line that has one.
+fn led_source<T: Tree>(
     alloc: Global,
     rules: &Rules,
     tree: &mut T,
@@ -84,7 +84,7 @@ pub(crate) fn implicit_source<T: Tree>(
     requires own { option_to_list own ≡ own_recipes rules.now.lines.now name.now }
     requires phony { phony ≡ is_phony rules.now.lines.now name.now }
     ensures source { IfOk result (λ found. (looks : List ℕ → Option FileLook) → T.allows tree.new looks
-        → found ≡ implicit_source (inputs_of rules.now.lines.now (finmap.get rules.now.state.now) looks) name.now) }
+        → found ≡ led_source (inputs_of rules.now.lines.now (finmap.get rules.now.state.now) looks) name.now) }
     ensures looks { Looks (T.allows tree.old) (T.allows tree.new) (T.refuses tree.old) (T.refuses tree.new) (T.asked tree.old) (T.asked tree.new) (T.firsts tree.old) (T.firsts tree.new) }
     ensures fault { IfErr result (IsImplicitFault rules.now.targets.now (T.allows tree.new) (T.refuses tree.new) rules.now.forms.now rules.now.steps rules.now.lines.now
         (finmap.get rules.now.state.now) name.now) }
@@ -98,6 +98,31 @@ pub(crate) fn implicit_source<T: Tree>(
         drop(source);
         Ok(None)
     }
+}
+
+/// What an implicit rule makes a name from, of which this is seen.
+pub(crate) fn implicit_source<T: Tree>(
+    alloc: Global,
+    rules: &Rules,
+    tree: &mut T,
+    name: &[u8],
+    own: Option<usize>,
+    phony: bool,
+    seen: Option<FileLook>,
+) -> Result<Option<Source>, RuleFault>
+    requires own { option_to_list own ≡ own_recipes rules.now.lines.now name.now }
+    requires phony { phony ≡ is_phony rules.now.lines.now name.now }
+    requires seen { (looks : List ℕ → Option FileLook) → T.allows tree.old looks → seen ≡ seen_looks rules.now.lines.now looks name.now }
+    ensures source { IfOk result (λ found. (looks : List ℕ → Option FileLook) → T.allows tree.new looks
+        → found ≡ implicit_source (inputs_of rules.now.lines.now (finmap.get rules.now.state.now) looks) name.now) }
+    ensures looks { Looks (T.allows tree.old) (T.allows tree.new) (T.refuses tree.old) (T.refuses tree.new) (T.asked tree.old) (T.asked tree.new) (T.firsts tree.old) (T.firsts tree.new) }
+    ensures fault { IfErr result (IsImplicitFault rules.now.targets.now (T.allows tree.new) (T.refuses tree.new) rules.now.forms.now rules.now.steps rules.now.lines.now
+        (finmap.get rules.now.state.now) name.now) }
+{
+    if is_taken_as_old(seen) {
+        return Ok(None);
+    }
+    led_source(alloc, rules, tree, name, own, phony)
 }
 
 /// The earlier of two times; None where one is missing.
@@ -120,13 +145,15 @@ fn time_of(look: &Option<FileLook>) -> Option<i128>
     }
 }
 
-/// The earliest of this time and those of the looks.
+/// The earliest of this time and those of the looks that count.
 fn earliest(first: Option<i128>, looks: &[Option<FileLook>]) -> Option<i128>
-    ensures { result ≡ earliest first (map time_of looks.now) }
+    ensures { result ≡ earliest first (times_counted looks.now) }
 {
     let mut time = first;
     for look in looks {
-        time = earlier(time, time_of(look));
+        if !is_taken_as_old(*look) {
+            time = earlier(time, time_of(look));
+        }
     }
     time
 }
