@@ -1,7 +1,7 @@
 //! Who hears what lines write as it comes.
 
 /// One of the two streams that a line writes on.
-#[derive(Clone, Copy, Debug, PartialEq, Eq)]
+#[derive(Clone, Copy)]
 pub enum Stream {
     Out,
     Err,

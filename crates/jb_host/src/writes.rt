@@ -5,7 +5,7 @@ ghost use Rattle.jb_host.specs.Writes.{IsShared};
 use mk_recipe::Line;
 
 /// Where what lines write goes.
-#[derive(Clone, Copy, Debug, PartialEq, Eq)]
+#[derive(Clone, Copy, PartialEq, Eq)]
 pub enum Writes {
     /// It is collected, but for lines of the wide profile that may call make: of these nothing is held back.
     Apart,

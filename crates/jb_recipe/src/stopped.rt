@@ -4,7 +4,7 @@ use std::{fmt, io};
 use thiserror::Error;
 
 /// A signal that ended a line, by its number.
-#[derive(Clone, Copy, Debug, PartialEq, Eq)]
+#[derive(Clone, Copy, Debug)]
 pub struct Signal(pub i32);
 
 /// What became of a line that has no status of its own.

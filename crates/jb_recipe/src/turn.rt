@@ -7,7 +7,7 @@ ghost use Rattle.mk_settings.specs.Pools.{HasShare, is_member};
 use mk_settings::{Settings, Share};
 
 /// How a recipe is run beside others.
-#[derive(Clone, Copy, Debug, PartialEq, Eq)]
+#[derive(Clone, Copy)]
 pub struct Turn {
     /// It has the terminal: no other recipe runs meanwhile.
     pub is_alone: bool,

@@ -10,7 +10,7 @@ use jb_slots::{Auth, read_auth};
 use std::alloc::{AllocError, Global};
 
 /// Where the job slots of a run come from.
-#[derive(Clone, Copy, Debug, PartialEq, Eq)]
+#[derive(Clone, Copy, PartialEq, Eq)]
 pub enum Source<'a> {
     /// The FIFO of this path, which another make serves.
     Client(&'a [u8]),

@@ -17,7 +17,7 @@ use plain_text::to_plain;
 use std::alloc::{AllocError, Global};
 
 /// How much is told of targets with a recipe.
-#[derive(Clone, Copy, Debug, PartialEq, Eq)]
+#[derive(Clone, Copy)]
 pub enum Telling {
     Nothing,
     /// Why one is made.
