@@ -193,10 +193,14 @@ fn parts_of(name: &[u8]) -> (&[u8], &[u8])
     }
 }
 
-/// The name is made of one or two suffixes that other makes know.
+/// The name is made of one or two suffixes that other makes know. Each of these begins with a dot.
+#[tactic(auto, using(crate::proofs::NameLemmas::no_suffix))]
 pub(crate) fn is_suffix_name(name: &[u8]) -> bool
     ensures { result ≡ is_suffix_name name.now }
 {
+    if !begins_with_dot(name) {
+        return false;
+    }
     let (first, second) = parts_of(name);
     has(&SUFFIXES, first) && (second.is_empty() || has(&SUFFIXES, second))
 }
