@@ -30,11 +30,11 @@ use Rattle.mk_makefile.proofs.SupportedLemmas.{one_pattern_decides}
 pub taking_decides : (l : RuleLine) → Decides (is_taking l) (IsTaking l)
 taking_decides l =
     Decides-like (is_taking l)
-    (λ h. record { rule = h.0; target = h.1.0; source = h.1.1.0; no_recipe = h.1.1.1 })
-    (λ is. (is.rule, (is.target, (is.source, is.no_recipe))))
-    (Decides-and (is_rule l) (is_one_pattern l.targets && (is_one_pattern l.prerequisites && is_empty l.recipe)) (rule_decides l)
-    (Decides-and (is_one_pattern l.targets) (is_one_pattern l.prerequisites && is_empty l.recipe) (one_pattern_decides l.targets)
-    (Decides-and (is_one_pattern l.prerequisites) (is_empty l.recipe) (one_pattern_decides l.prerequisites) (empty_decides l.recipe))))
+    (λ h. record { rule = h.1.0; target = h.1.1.0; source = h.1.1.1; no_recipe = h.0 })
+    (λ is. (is.no_recipe, (is.rule, (is.target, is.source))))
+    (Decides-and (is_empty l.recipe) (is_rule l && (is_one_pattern l.targets && is_one_pattern l.prerequisites)) (empty_decides l.recipe)
+    (Decides-and (is_rule l) (is_one_pattern l.targets && is_one_pattern l.prerequisites) (rule_decides l)
+    (Decides-and (is_one_pattern l.targets) (is_one_pattern l.prerequisites) (one_pattern_decides l.targets) (one_pattern_decides l.prerequisites))))
 
 word_is : (names others : List (List ℕ)) → same_word names others ≡ true → names ≡ others
 word_is (name ∷ []) (other ∷ []) e = ap (λ n. n ∷ []) ((bytes_eq-Decides name other).0 e)

@@ -71,7 +71,7 @@ is_refused DefaultRule l = is_default_rule l.special && not (is_whole_default l)
 
 -- a pattern rule of one target and one prerequisite, with one `%` in each, and without a recipe
 abbrev pub is_taking : RuleLine → Bool
-is_taking l = is_rule l && (is_one_pattern l.targets && (is_one_pattern l.prerequisites && is_empty l.recipe))
+is_taking l = is_empty l.recipe && (is_rule l && (is_one_pattern l.targets && is_one_pattern l.prerequisites))
 
 -- both are just one name, and the same one
 abbrev pub same_word : (names others : List (List ℕ)) → Bool

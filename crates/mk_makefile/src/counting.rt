@@ -17,10 +17,11 @@ const PERCENT: &[u8] = b"%";
 fn is_taking(line: &RuleLine) -> bool
     ensures { result ≡ is_taking line.now }
 {
-    line.is_rule()
+    // Most lines have a recipe.
+    !line.has_recipe()
+        && line.is_rule()
         && is_one_pattern(&line.targets)
         && is_one_pattern(&line.prerequisites)
-        && !line.has_recipe()
 }
 
 /// Whether both are just one word, and the same one.
