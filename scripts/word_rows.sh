@@ -10,6 +10,7 @@ add_rows cases/words
 refuses 'another answer' $'row r\nwords a > 2\n'
 refuses 'a call that is not known' $'row r\nwordy a > 1\n'
 refuses 'a call with an argument too many' $'row r\nstrip a b > a\n'
+refuses 'a call with an argument too few' $'row r\nsubst a b > nothing\n'
 refuses 'another name of a depfile' $'row r\ndepfile a:\\20b > a\n'
 refuses 'another sign of a definition' $'row r\nvariables a:=b > a = b\n'
 refuses 'bytes of one digit' $'row r\nstrip \\0 > a\n'

@@ -1,14 +1,34 @@
-//! The arguments of a line, and what is wrong with numbers.
+//! The arguments of calls and lines, and what is wrong with numbers.
 use mk_words::NumberFault;
-use row_files::{RowFault, Words, bytes};
-use std::alloc::Global;
+use row_files::{RowFault, bytes};
+use std::alloc::{AllocError, Global};
 
-/// The next argument of a line, in the notation of bytes.
-pub(crate) fn argument(alloc: Global, words: &mut Words<'_>) -> Result<Vec<u8>, RowFault> {
-    match words.next() {
+/// An argument, in the notation of bytes.
+pub(crate) fn argument(alloc: Global, word: &str) -> Result<Vec<u8>, RowFault> {
+    match word {
         "nothing" => Ok(Vec::new(alloc)),
         word => bytes::read(alloc, word),
     }
+}
+
+// A list grows here over any type, where what isn't taken is let go by one call.
+pub(crate) fn add<T: Drop>(list: &mut Vec<T>, item: T) -> Result<(), AllocError> {
+    list.push(item)?;
+    Ok(())
+}
+
+fn add_each(alloc: Global, given: &mut Vec<Vec<u8>>, text: &str) -> Result<(), RowFault> {
+    for word in text.split(' ') {
+        add(given, argument(alloc, word)?)?;
+    }
+    Ok(())
+}
+
+/// The arguments of a call, with a blank between each two.
+pub(crate) fn arguments(alloc: Global, text: &str) -> Result<Vec<Vec<u8>>, RowFault> {
+    let mut given = Vec::new(alloc);
+    add_each(alloc, &mut given, text)?;
+    Ok(given)
 }
 
 /// What is wrong with a number.

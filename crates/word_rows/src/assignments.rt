@@ -1,6 +1,8 @@
 //! What lines say of variables.
+use crate::texts::{say_text, say_word};
 use mk_assignments::{DefineLine, Definition, Modifiers, Sign, Statement, statement_of};
-use row_files::{Answered, bytes};
+use row_files::Answered;
+use std::alloc::AllocError;
 
 fn text_of(sign: Sign) -> &'static str {
     match sign {
@@ -13,75 +15,63 @@ fn text_of(sign: Sign) -> &'static str {
     }
 }
 
-fn say_word(out: &mut String, word: &str) -> Answered {
-    if !out.is_empty() {
-        out.push(' ')?;
-    }
-    out.push_str(word)?;
-    Ok(())
+fn say_if(out: &mut String, is_so: bool, word: &str) -> Result<(), AllocError> {
+    if is_so { say_word(out, word) } else { Ok(()) }
 }
 
-fn say_text(out: &mut String, text: &[u8]) -> Answered {
-    if text.is_empty() {
-        return say_word(out, "nothing");
-    }
-    if !out.is_empty() {
-        out.push(' ')?;
-    }
-    Ok(bytes::say_all(out, text)?)
+fn say_modifiers(out: &mut String, modifiers: Modifiers) -> Result<(), AllocError> {
+    say_if(out, modifiers.is_exported, "export")?;
+    say_if(out, modifiers.is_overriding, "override")?;
+    say_if(out, modifiers.is_private, "private")
 }
 
-fn say_modifiers(out: &mut String, modifiers: Modifiers) -> Answered {
-    if modifiers.is_exported {
-        say_word(out, "export")?;
-    }
-    if modifiers.is_overriding {
-        say_word(out, "override")?;
-    }
-    if modifiers.is_private {
-        say_word(out, "private")?;
-    }
-    Ok(())
-}
-
-fn say_definition(out: &mut String, definition: Definition<'_>) -> Answered {
+fn say_definition(
+    out: &mut String,
+    modifiers: Modifiers,
+    definition: Definition<'_>,
+) -> Result<(), AllocError> {
+    say_modifiers(out, modifiers)?;
     say_text(out, definition.name)?;
     say_word(out, text_of(definition.sign))?;
     say_text(out, definition.value)
 }
 
-fn say_define(out: &mut String, line: DefineLine<'_>) -> Answered {
-    say_word(out, "define")?;
-    say_text(out, line.name)?;
+fn say_define(
+    out: &mut String,
+    modifiers: Modifiers,
+    line: DefineLine<'_>,
+) -> Result<(), AllocError> {
+    say_modifiers(out, modifiers)?;
+    say_names(out, "define", line.name)?;
     say_word(out, text_of(line.sign))?;
-    if line.has_text_behind {
-        say_word(out, "text-behind")?;
-    }
-    Ok(())
+    say_if(out, line.has_text_behind, "text-behind")
 }
 
-fn say_names(out: &mut String, word: &str, names: &[u8]) -> Answered {
+fn say_undefine(out: &mut String, modifiers: Modifiers, name: &[u8]) -> Result<(), AllocError> {
+    say_modifiers(out, modifiers)?;
+    say_names(out, "undefine", name)
+}
+
+fn say_names(out: &mut String, word: &str, names: &[u8]) -> Result<(), AllocError> {
     say_word(out, word)?;
     say_text(out, names)
 }
 
+fn say(out: &mut String, statement: Statement<'_>) -> Result<(), AllocError> {
+    match statement {
+        Statement::Defines(modifiers, definition) => say_definition(out, modifiers, definition),
+        Statement::Begins(modifiers, line) => say_define(out, modifiers, line),
+        Statement::Undefines(modifiers, name) => say_undefine(out, modifiers, name),
+        Statement::Exports(names) => say_names(out, "export", names),
+        Statement::Unexports(names) => say_names(out, "unexport", names),
+    }
+}
+
 /// What a line says of variables, or `none`.
 pub(crate) fn say_statement(text: &[u8], out: &mut String) -> Answered {
-    match statement_of(text) {
+    let said = match statement_of(text) {
+        Some(statement) => say(out, statement),
         None => say_word(out, "none"),
-        Some(Statement::Defines(modifiers, definition)) => {
-            say_modifiers(out, modifiers)?;
-            say_definition(out, definition)
-        }
-        Some(Statement::Begins(modifiers, line)) => {
-            say_modifiers(out, modifiers)?;
-            say_define(out, line)
-        }
-        Some(Statement::Undefines(modifiers, name)) => {
-            say_modifiers(out, modifiers)?;
-            say_names(out, "undefine", name)
-        }
-        Some(Statement::Exports(names)) => say_names(out, "export", names),
-        Some(Statement::Unexports(names)) => say_names(out, "unexport", names),
-    }
+    };
+    Ok(said?)
 }

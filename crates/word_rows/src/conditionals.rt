@@ -1,15 +1,16 @@
 //! Which lines of a text count, between conditionals.
 ghost use Rattle.std.specs.Prelude.{◌≡◌, IfOk, is_some};
 
+use crate::texts::{say_place, say_text};
 use mk_conditionals::{Directive, Nest, NestFault, Question, Test, directive_of, tested_name};
-use row_files::{Answered, RowFault, bytes};
-use std::alloc::Global;
+use row_files::Answered;
+use std::alloc::{AllocError, Global};
 
 /// Why lines are refused.
 enum Refused {
     Nest(NestFault),
     InvalidTest,
-    Row(RowFault),
+    OutOfMemory,
 }
 
 impl From<NestFault> for Refused {
@@ -18,9 +19,9 @@ impl From<NestFault> for Refused {
     }
 }
 
-impl From<RowFault> for Refused {
-    fn from(fault: RowFault) -> Refused {
-        Refused::Row(fault)
+impl From<AllocError> for Refused {
+    fn from(_fault: AllocError) -> Refused {
+        Refused::OutOfMemory
     }
 }
 
@@ -51,7 +52,7 @@ fn step(nest: &mut Nest, number: usize, directive: Directive<Test<'_>>) -> Resul
     match directive {
         Directive::Begins(test) => {
             let holds = asked(nest.is_active(), test)?;
-            nest.begin(number, holds).map_err(RowFault::from)?;
+            nest.begin(number, holds)?;
         }
         Directive::Turns(Some(test)) => {
             let holds = asked(nest.wants_test(), test)?;
@@ -72,13 +73,17 @@ fn is_looked_at(nest: &Nest, directive: Directive<Test<'_>>) -> bool {
     }
 }
 
+fn say_plain(out: &mut String, counts: bool, line: &[u8]) -> Result<(), AllocError> {
+    if counts && !line.contains(&b'=') {
+        return say_text(out, line);
+    }
+    Ok(())
+}
+
 /// What a line says where it counts. A definition says nothing.
 fn say_line(nest: &mut Nest, number: usize, line: &[u8], out: &mut String) -> Result<(), Refused> {
     let Some(said) = directive_of(line) else {
-        if nest.is_active() && !line.contains(&b'=') {
-            say(out, line)?;
-        }
-        return Ok(());
+        return Ok(say_plain(out, nest.is_active(), line)?);
     };
     if said.has_text_behind && is_looked_at(nest, said.directive) {
         say_place(out, "text-behind", number)?;
@@ -86,22 +91,7 @@ fn say_line(nest: &mut Nest, number: usize, line: &[u8], out: &mut String) -> Re
     step(nest, number, said.directive)
 }
 
-fn say(out: &mut String, line: &[u8]) -> Result<(), RowFault> {
-    if !out.is_empty() {
-        out.push(' ')?;
-    }
-    Ok(bytes::say_all(out, line)?)
-}
-
-fn say_place(out: &mut String, what: &str, number: usize) -> Result<(), RowFault> {
-    if !out.is_empty() {
-        out.push(' ')?;
-    }
-    write!(out, "{what}:{number}")?;
-    Ok(())
-}
-
-fn say_nest_fault(out: &mut String, number: usize, fault: NestFault) -> Result<(), RowFault> {
+fn say_nest_fault(out: &mut String, number: usize, fault: NestFault) -> Result<(), AllocError> {
     match fault {
         NestFault::ExtraneousElse => say_place(out, "extraneous-else", number),
         NestFault::ExtraneousEndif => say_place(out, "extraneous-endif", number),
@@ -110,16 +100,20 @@ fn say_nest_fault(out: &mut String, number: usize, fault: NestFault) -> Result<(
     }
 }
 
-fn say_lines(alloc: Global, text: &[u8], out: &mut String) -> Answered {
-    let mut nest = Nest::new(alloc);
+fn say_refused(out: &mut String, number: usize, refused: Refused) -> Result<(), AllocError> {
+    match refused {
+        Refused::Nest(fault) => say_nest_fault(out, number, fault),
+        Refused::InvalidTest => say_place(out, "invalid", number),
+        Refused::OutOfMemory => Err(AllocError),
+    }
+}
+
+fn say_lines(nest: &mut Nest, text: &[u8], out: &mut String) -> Result<(), AllocError> {
     let mut number: usize = 0;
     for line in text.split(|byte| *byte == b'\n') {
         number = number.saturating_add(1);
-        match say_line(&mut nest, number, line, out) {
-            Ok(()) => {}
-            Err(Refused::Nest(fault)) => return say_nest_fault(out, number, fault),
-            Err(Refused::InvalidTest) => return say_place(out, "invalid", number),
-            Err(Refused::Row(fault)) => return Err(fault),
+        if let Err(refused) = say_line(nest, number, line, out) {
+            return say_refused(out, number, refused);
         }
     }
     match nest.missing() {
@@ -130,7 +124,10 @@ fn say_lines(alloc: Global, text: &[u8], out: &mut String) -> Answered {
 
 /// The lines of a text that count, each as it stands, and what GNU make warns of; or down to the first that is refused.
 pub(crate) fn say_taken(alloc: Global, text: &[u8], out: &mut String) -> Answered {
-    say_lines(alloc, text, out)?;
+    let mut nest = Nest::new(alloc);
+    let said = say_lines(&mut nest, text, out);
+    drop(nest);
+    said?;
     if out.is_empty() {
         out.push_str("nothing")?;
     }

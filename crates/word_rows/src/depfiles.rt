@@ -1,4 +1,5 @@
 //! What depfiles name, and where they lie.
+use crate::texts::say_text;
 use byte_strings::ByteStrings;
 use mk_depfiles::{Cause, Refusal, depfile_of, names_of};
 use row_files::{Answered, bytes};
@@ -23,10 +24,7 @@ fn say_refusal(out: &mut String, refusal: Refusal) -> Answered {
 
 fn say_list(out: &mut String, names: &ByteStrings) -> Answered {
     for name in names {
-        if !out.is_empty() {
-            out.push(' ')?;
-        }
-        bytes::say_all(out, name)?;
+        say_text(out, name)?;
     }
     if out.is_empty() {
         out.push_str("nothing")?;

@@ -1,5 +1,5 @@
 //! What texts come to, with the variables and the world outside of a row.
-use crate::arguments::{argument, number_fault};
+use crate::arguments::{add, argument, number_fault};
 use crate::outside::{Answer, Told, question_of};
 use crate::variables::{Defined, Variables, flavor_of, origin_of};
 use mk_functions::{Fault, Origin, Stop, expand};
@@ -14,24 +14,45 @@ pub(crate) struct Setting {
     outside: Told,
 }
 
-/// The variable that a line defines behind its name.
-fn definition(alloc: Global, origin: Origin, words: &mut Words<'_>) -> Result<Defined, RowFault> {
-    let flavor = flavor_of(words.next()).ok_or(RowFault::Word)?;
-    let text = argument(alloc, words)?;
-    Ok(Defined {
-        text,
-        flavor,
-        origin,
-    })
+/// What stands behind the first word of a line.
+#[derive(Clone, Copy)]
+struct Line<'a> {
+    name: &'a str,
+    sign: &'a str,
+    text: &'a str,
+}
+
+fn line_of<'a>(words: &mut Words<'a>) -> Line<'a> {
+    let (name, sign, text) = (words.next(), words.next(), words.next());
+    Line { name, sign, text }
+}
+
+/// The variable of a line, behind its name.
+fn definition(
+    alloc: Global,
+    origin: Origin,
+    line: Line<'_>,
+) -> Result<(Vec<u8>, Defined), RowFault> {
+    let flavor = flavor_of(line.sign).ok_or(RowFault::Word)?;
+    let name = argument(alloc, line.name)?;
+    let text = argument(alloc, line.text)?;
+    Ok((
+        name,
+        Defined {
+            text,
+            flavor,
+            origin,
+        },
+    ))
 }
 
 /// The answer of a line.
-fn answer(alloc: Global, question: Question, words: &mut Words<'_>) -> Result<Answer, RowFault> {
-    let text = argument(alloc, words)?;
-    if words.next() != "=" {
+fn answer(alloc: Global, question: Question, line: Line<'_>) -> Result<Answer, RowFault> {
+    if line.sign != "=" {
         return Err(RowFault::Word);
     }
-    let value = argument(alloc, words)?;
+    let text = argument(alloc, line.name)?;
+    let value = argument(alloc, line.text)?;
     Ok(Answer {
         question,
         text,
@@ -52,28 +73,26 @@ impl Setting {
         }
     }
 
-    fn define(&mut self, alloc: Global, origin: Origin, words: &mut Words<'_>) -> Answered {
-        let name = argument(alloc, words)?;
-        let it = definition(alloc, origin, words)?;
-        self.variables.entries.push((name, it))?;
-        Ok(())
-    }
-
     /// Takes a line: ORIGIN NAME = TEXT, with `:=` for a simple variable, or QUESTION TEXT = ANSWER. Whether it is one.
     pub(crate) fn takes(&mut self, alloc: Global, line: &str) -> Result<bool, RowFault> {
         let mut words = Words { rest: line };
         let word = words.next();
+        let line = line_of(&mut words);
+        if !words.rest.is_empty() {
+            return Ok(false);
+        }
         if let Some(origin) = origin_of(word) {
-            self.define(alloc, origin, &mut words)?;
-            return Ok(words.rest.is_empty());
+            add(
+                &mut self.variables.entries,
+                definition(alloc, origin, line)?,
+            )?;
+            return Ok(true);
         }
         let Some(question) = question_of(word) else {
             return Ok(false);
         };
-        self.outside
-            .answers
-            .push(answer(alloc, question, &mut words)?)?;
-        Ok(words.rest.is_empty())
+        add(&mut self.outside.answers, answer(alloc, question, line)?)?;
+        Ok(true)
     }
 
     /// What was asked and said, and what a text comes to, or why it has no value.

@@ -1,5 +1,5 @@
 //! The functions, by the names that GNU make has for them.
-use crate::arguments::{argument, number_fault};
+use crate::arguments::{arguments, number_fault};
 use crate::assignments::say_statement;
 use crate::conditionals::say_taken;
 use crate::depfiles::{say_names, say_place};
@@ -47,114 +47,115 @@ fn say_found(out: &mut String, found: Result<&[u8], NumberFault>) -> Result<(), 
     }
 }
 
-/// A function of a text alone.
-fn of_one(alloc: Global, name: &str, text: &[u8]) -> Result<Vec<u8>, RowFault> {
+/// A text that a function made.
+fn say_made(out: &mut String, made: Result<Vec<u8>, AllocError>) -> Answered {
+    let text = made?;
+    let answered = bytes::say_all(out, text.as_slice());
+    drop(text);
+    Ok(answered?)
+}
+
+fn say_count(out: &mut String, count: usize) -> Answered {
+    Ok(write!(out, "{count}")?)
+}
+
+/// A function of file names.
+fn of_names(alloc: Global, name: &str, text: &[u8], out: &mut String) -> Answered {
     match name {
-        "firstword" => Ok(Vec::from_slice(alloc, first_word(text))?),
-        "lastword" => Ok(Vec::from_slice(alloc, last_word(text))?),
-        "strip" => Ok(strip(alloc, text)?),
-        "dir" => Ok(dir(alloc, text)?),
-        "notdir" => Ok(notdir(alloc, text)?),
-        "suffix" => Ok(suffix(alloc, text)?),
-        "basename" => Ok(basename(alloc, text)?),
-        "sort" => Ok(sort(alloc, text)?),
+        "dir" => say_made(out, dir(alloc, text)),
+        "notdir" => say_made(out, notdir(alloc, text)),
+        "suffix" => say_made(out, suffix(alloc, text)),
+        "basename" => say_made(out, basename(alloc, text)),
         _ => Err(RowFault::Word),
     }
 }
 
-fn is_of_two(name: &str) -> bool {
-    matches!(
-        name,
-        "addsuffix" | "addprefix" | "join" | "filter" | "filter-out" | "findstring"
-    )
+/// A function of a text alone.
+fn of_one(alloc: Global, name: &str, text: &[u8], out: &mut String) -> Answered {
+    match name {
+        "words" => say_count(out, word_count(text)),
+        "firstword" => Ok(bytes::say_all(out, first_word(text))?),
+        "lastword" => Ok(bytes::say_all(out, last_word(text))?),
+        "strip" => say_made(out, strip(alloc, text)),
+        "sort" => say_made(out, sort(alloc, text)),
+        _ => of_names(alloc, name, text, out),
+    }
+}
+
+/// A function of words, with another argument in front.
+fn of_words(alloc: Global, name: &str, first: &[u8], text: &[u8], out: &mut String) -> Answered {
+    match name {
+        "addsuffix" => say_made(out, add_suffix(alloc, first, text)),
+        "addprefix" => say_made(out, add_prefix(alloc, first, text)),
+        "join" => say_made(out, join(alloc, first, text)),
+        "filter" => say_made(out, filter(alloc, first, text)),
+        "filter-out" => say_made(out, filter_out(alloc, first, text)),
+        _ => Err(RowFault::Word),
+    }
 }
 
 /// A function of a text, with another argument in front.
-fn of_two(alloc: Global, name: &str, first: &[u8], text: &[u8]) -> Result<Vec<u8>, RowFault> {
+fn of_two(alloc: Global, name: &str, first: &[u8], text: &[u8], out: &mut String) -> Answered {
     match name {
-        "addsuffix" => Ok(add_suffix(alloc, first, text)?),
-        "addprefix" => Ok(add_prefix(alloc, first, text)?),
-        "join" => Ok(join(alloc, first, text)?),
-        "filter" => Ok(filter(alloc, first, text)?),
-        "filter-out" => Ok(filter_out(alloc, first, text)?),
-        _ => Ok(Vec::from_slice(alloc, find_string(first, text))?),
+        "word" => Ok(say_found(out, word(first, text))?),
+        "findstring" => Ok(bytes::say_all(out, find_string(first, text))?),
+        "depfile-of" => say_place(alloc, first, text, out),
+        _ => of_words(alloc, name, first, text, out),
     }
 }
 
 /// A function of a text, with two other arguments in front.
-fn of_three(alloc: Global, name: &str, words: &mut Words<'_>) -> Result<Vec<u8>, RowFault> {
-    let from = argument(alloc, words)?;
-    let to = argument(alloc, words)?;
-    let text = argument(alloc, words)?;
-    let (from, to, text) = (from.as_slice(), to.as_slice(), text.as_slice());
+fn of_three(
+    alloc: Global,
+    name: &str,
+    first: &[u8],
+    second: &[u8],
+    text: &[u8],
+    out: &mut String,
+) -> Answered {
     match name {
-        "subst" => Ok(subst(alloc, from, to, text)?),
-        _ => Ok(patsubst(alloc, from, to, text)?),
+        "wordlist" => Ok(say_found(out, word_list(first, second, text))?),
+        "subst" => say_made(out, subst(alloc, first, second, text)),
+        "patsubst" => say_made(out, patsubst(alloc, first, second, text)),
+        _ => Err(RowFault::Word),
     }
 }
 
-/// A function whose value is a text of its own.
-fn made(alloc: Global, name: &str, words: &mut Words<'_>) -> Result<Vec<u8>, RowFault> {
-    if matches!(name, "subst" | "patsubst") {
-        return of_three(alloc, name, words);
+impl Functions {
+    /// What is read of a text, or a function of it.
+    fn of_text(&mut self, alloc: Global, name: &str, text: &[u8], out: &mut String) -> Answered {
+        match name {
+            "expand" => self.setting.say_value(alloc, text, out),
+            "lines" => say_taken(alloc, text, out),
+            "variables" => say_statement(text, out),
+            "depfile" => say_names(alloc, text, out),
+            _ => of_one(alloc, name, text, out),
+        }
     }
-    let first = argument(alloc, words)?;
-    if is_of_two(name) {
-        let text = argument(alloc, words)?;
-        return of_two(alloc, name, first.as_slice(), text.as_slice());
+
+    fn answer(
+        &mut self,
+        alloc: Global,
+        name: &str,
+        given: &[Vec<u8>],
+        out: &mut String,
+    ) -> Answered {
+        match given {
+            [text] => self.of_text(alloc, name, text, out),
+            [first, text] => of_two(alloc, name, first, text, out),
+            [first, second, text] => of_three(alloc, name, first, second, text, out),
+            _ => Err(RowFault::Word),
+        }
     }
-    of_one(alloc, name, first.as_slice())
 }
 
 impl World for Functions {
+    // What is lent to an answer is let go by one call.
     fn call(&mut self, alloc: Global, words: &mut Words<'_>, out: &mut String) -> Answered {
-        match words.next() {
-            "expand" => {
-                let text = argument(alloc, words)?;
-                self.setting.say_value(alloc, text.as_slice(), out)?;
-            }
-            "lines" => {
-                let text = argument(alloc, words)?;
-                say_taken(alloc, text.as_slice(), out)?;
-            }
-            "variables" => {
-                let text = argument(alloc, words)?;
-                say_statement(text.as_slice(), out)?;
-            }
-            "depfile" => {
-                let text = argument(alloc, words)?;
-                say_names(alloc, text.as_slice(), out)?;
-            }
-            "depfile-of" => {
-                let pattern = argument(alloc, words)?;
-                let target = argument(alloc, words)?;
-                say_place(alloc, pattern.as_slice(), target.as_slice(), out)?;
-            }
-            "words" => {
-                let text = argument(alloc, words)?;
-                write!(out, "{}", word_count(text.as_slice()))?;
-            }
-            "word" => {
-                let number = argument(alloc, words)?;
-                let text = argument(alloc, words)?;
-                say_found(out, word(number.as_slice(), text.as_slice()))?;
-            }
-            "wordlist" => {
-                let first = argument(alloc, words)?;
-                let last = argument(alloc, words)?;
-                let text = argument(alloc, words)?;
-                let found = word_list(first.as_slice(), last.as_slice(), text.as_slice());
-                say_found(out, found)?;
-            }
-            name => {
-                let text = made(alloc, name, words)?;
-                bytes::say_all(out, text.as_slice())?;
-            }
-        }
-        if words.rest.is_empty() {
-            Ok(())
-        } else {
-            Err(RowFault::Word)
-        }
+        let name = words.next();
+        let given = arguments(alloc, words.rest)?;
+        let answered = self.answer(alloc, name, &given, out);
+        drop(given);
+        answered
     }
 }

@@ -11,6 +11,7 @@ mod depfiles;
 mod expansions;
 mod functions;
 mod outside;
+mod texts;
 mod variables;
 
 use functions::Functions;
