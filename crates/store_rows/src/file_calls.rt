@@ -1,7 +1,6 @@
 //! Calls of files of this machine, and how long some take.
-use crate::commits::commit_name;
 use crate::keys::say_keys;
-use crate::times::{commits_in_files, commits_in_memory, compaction_in_files};
+use crate::times::{commits_in_files, commits_in_memory, compaction_in_files, time_of_begun};
 use disk_rows::{say_file, say_system};
 use row_files::RowFault;
 use std::process::ExitCode;
@@ -22,7 +21,7 @@ fn unknown(rt: HostRuntime, name: &str) -> anyhow::Result<ExitCode> {
 }
 
 fn commit(rt: HostRuntime, file: &str, target: &str) -> anyhow::Result<ExitCode> {
-    commit_name(rt, file, target)?;
+    let _time = time_of_begun(rt, file, target.as_bytes(), 1)?;
     Ok(ExitCode::from(0))
 }
 

@@ -14,10 +14,9 @@ use st_disk::Disk;
 use st_doubles::{FailOnce, Fuse};
 use st_file::{CommitFault, OpenFault};
 use st_memory::MemDisk;
-use st_records::{Explicit, HashKey, Record};
+use st_records::{ByteString, Explicit, HashKey, Record};
 use st_recovery::{Store, open};
-use std::alloc::Global;
-use std::slice;
+use std::alloc::{AllocError, Global};
 
 /// More calls of a disk than any row makes.
 pub(crate) const MANY: u64 = 1_000_000;
@@ -109,6 +108,13 @@ impl Drop for Change {
 }
 
 impl Change {
+    /// The commit of one record: that a target's recipe began.
+    pub(crate) fn begun(alloc: Global, target: &[u8]) -> Result<Change, AllocError> {
+        let mut records = Vec::with_capacity(alloc, 1)?;
+        push_begun(alloc, &mut records, target)?;
+        Ok(Change::Commit(records))
+    }
+
     pub(crate) fn of(alloc: Global, name: &str, rest: &str) -> Result<Change, RowFault> {
         match name {
             "commit" => Ok(Change::Commit(records_of(alloc, rest)?)),
@@ -118,13 +124,24 @@ impl Change {
     }
 }
 
+fn push_begun(alloc: Global, records: &mut Vec<Record>, target: &[u8]) -> Result<(), AllocError> {
+    let target = ByteString::from_slice(alloc, target)?;
+    add(records, Record::Begun { target })
+}
+
+// A list grows here over any type, where what isn't taken is let go by one call.
+fn add<T: Drop>(list: &mut Vec<T>, item: T) -> Result<(), AllocError> {
+    list.push(item)?;
+    Ok(())
+}
+
 /// So many calls of the disk pass before it stops, or before one fails.
 pub(crate) fn device_of(memory: MemDisk, stop: u64, fail: u64) -> Device {
     FailOnce::new(Fuse::new(memory, stop), fail)
 }
 
 /// The store of a disk, or why it is refused, and the disk.
-pub(crate) fn opened<D: Disk + Drop>(alloc: Global, disk: D) -> Result<Store<D>, (OpenFault, D)> {
+pub fn opened<D: Disk + Drop>(alloc: Global, disk: D) -> Result<Store<D>, (OpenFault, D)> {
     open(alloc, HashKey::fixed(), disk)
 }
 
@@ -160,7 +177,7 @@ fn all_may_be_committed(records: &[Record]) -> bool
 }
 
 /// Commits records that a later batch may hold.
-pub(crate) fn commit_good<D: Disk + Drop>(
+fn commit_good<D: Disk + Drop>(
     alloc: Global,
     store: &mut Store<D>,
     records: &[Record],
@@ -171,22 +188,7 @@ pub(crate) fn commit_good<D: Disk + Drop>(
     store.commit(alloc, records)
 }
 
-/// Commits one record that a later batch may hold.
-pub(crate) fn commit_one<D: Disk + Drop>(
-    alloc: Global,
-    store: &mut Store<D>,
-    note: &Record,
-) -> Result<(), CommitFault>
-    requires good { IsGood versions.Two note.now }
-    requires later { may_stand false note.now ≡ true }
-{
-    commit_good(alloc, store, slice::from_ref(note))
-}
-
-pub(crate) fn compacted<D: Disk + Drop>(
-    alloc: Global,
-    store: &mut Store<D>,
-) -> Result<(), CommitFault> {
+fn compacted<D: Disk + Drop>(alloc: Global, store: &mut Store<D>) -> Result<(), CommitFault> {
     compact(alloc, store)
 }
 

@@ -4,7 +4,6 @@
 //! cases/store/README.md has the language of rows.
 #![tactic(auto)]
 
-mod commits;
 mod file_calls;
 mod held;
 mod keys;
@@ -15,6 +14,8 @@ mod sweeps;
 mod times;
 
 pub use file_calls::call;
+pub use held::opened;
+pub use power_cuts::every_cut;
 use sides::Sides;
 use std::io;
 

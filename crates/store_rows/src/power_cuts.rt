@@ -7,7 +7,7 @@ use st_disk::Disk;
 use st_memory::MemDisk;
 use std::alloc::{AllocError, Global};
 
-static CUTS: [Cut; 6] = [
+static EVERY_CUT: [Cut; 6] = [
     Cut::Shortest(b"\x00"),
     Cut::Longest(b"\x00"),
     Cut::Shortest(b"\x01"),
@@ -16,8 +16,9 @@ static CUTS: [Cut; 6] = [
     Cut::Longest(b"\xff"),
 ];
 
-fn cuts() -> &'static [Cut] {
-    &CUTS
+/// Both lengths with each of three bytes in the open places.
+pub fn every_cut() -> &'static [Cut] {
+    &EVERY_CUT
 }
 
 /// The state of the store of a disk, or why it is refused.
@@ -53,7 +54,7 @@ pub(crate) fn say_cuts(
     front: &str,
     disk: &MemDisk,
 ) -> Result<(), RowFault> {
-    for cut in cuts() {
+    for cut in every_cut() {
         say_cut(alloc, said, front, after(alloc, disk, *cut)?)?;
     }
     Ok(())
