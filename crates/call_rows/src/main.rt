@@ -5,6 +5,12 @@
 //! cases/board/README.md have the languages of rows, and the first of them the other calls, of files of this machine.
 #![tactic(auto)]
 
+mod pair;
+mod setup;
+mod site_calls;
+mod store;
+
+use setup::BoardSetup;
 use std::process::ExitCode;
 use std::{env, fs, io};
 
@@ -27,7 +33,7 @@ fn kind_of(word: &str) -> Option<Kind> {
 fn print_rows(rt: HostRuntime, kind: Kind, file: &str, text: &str) -> io::Result<bool> {
     match kind {
         Kind::Store => store_rows::print_rows(rt, file, text),
-        Kind::Board => site_rows::print_rows(rt, file, text),
+        Kind::Board => row_files::print_rows::<BoardSetup>(rt, file, text),
     }
 }
 

@@ -1,14 +1,16 @@
 //! Stores over memory, and what a power cut leaves of them.
 use bd_flusher::Site;
 use byte_strings::ByteString;
+use disk_rows::after;
 use row_files::{Answered, RowFault};
 use st_disk::{Disk, Which};
 use st_doubles::{FailOnce, Fuse};
 use st_memory::MemDisk;
-use st_records::{HashKey, Phase};
-use st_recovery::{Store, open};
+use st_records::Phase;
+use st_recovery::Store;
 use st_state::{Listed, State};
 use std::alloc::{AllocError, Global};
+use store_rows::every_cut;
 
 /// A disk over memory that may stop, or fail one call.
 pub(crate) type Tried = Fuse<FailOnce<MemDisk>>;
@@ -38,15 +40,8 @@ impl OverMemory for Tried {
     }
 }
 
-// What the places that a power cut leaves open are filled with.
-static FILLS: [&[u8]; 3] = [b"\x00", b"\x01", b"\xff"];
-
-fn fills() -> &'static [&'static [u8]] {
-    &FILLS
-}
-
-pub(crate) fn opened<D: Disk + Drop>(alloc: Global, disk: D) -> Result<Store<D>, RowFault> {
-    match open(alloc, HashKey::fixed(), disk) {
+fn opened<D: Disk + Drop>(alloc: Global, disk: D) -> Result<Store<D>, RowFault> {
+    match store_rows::opened(alloc, disk) {
         Ok(store) => Ok(store),
         Err((_fault, _disk)) => Err(RowFault::NotOpen),
     }
@@ -87,38 +82,14 @@ fn write_known<D: Disk + Drop>(alloc: Global, disk: D, out: &mut String) -> Answ
     Ok(written?)
 }
 
-/// What a power cut now leaves: each side as short, or as long, as may be.
-fn cut(alloc: Global, disk: &MemDisk, longest: bool, fill: &[u8]) -> Result<MemDisk, RowFault> {
-    let (least_a, greatest_a) = disk.extreme_lengths(Which::A);
-    let (least_b, greatest_b) = disk.extreme_lengths(Which::B);
-    if least_a > greatest_a || least_b > greatest_b {
-        return Err(RowFault::Word);
-    }
-    if longest {
-        return Ok(disk.power_cut(alloc, greatest_a, greatest_b, fill)?);
-    }
-    Ok(disk.power_cut(alloc, least_a, least_b, fill)?)
-}
-
-/// How many targets such a cut leaves known.
-fn known_after(
-    alloc: Global,
-    disk: &MemDisk,
-    longest: bool,
-    fill: &[u8],
-) -> Result<usize, RowFault> {
-    known(alloc, cut(alloc, disk, longest, fill)?)
-}
-
 /// The least and the greatest number of targets that a power cut now leaves known.
 pub(crate) fn known_after_cuts(alloc: Global, disk: &MemDisk) -> Result<(usize, usize), RowFault> {
     let mut least = usize::MAX;
     let mut most = 0;
-    for fill in fills() {
-        let short = known_after(alloc, disk, false, fill)?;
-        let long = known_after(alloc, disk, true, fill)?;
-        least = least.min(short).min(long);
-        most = most.max(short).max(long);
+    for cut in every_cut() {
+        let count = known(alloc, after(alloc, disk, *cut)?)?;
+        least = least.min(count);
+        most = most.max(count);
     }
     Ok((least, most))
 }
