@@ -17,8 +17,7 @@ STRING = r'"((?:[^"\\]|\\.)*)"'
 
 # Programs of tests, whose texts no user of dmk reads.
 TEST_CRATES = {
-    "board_rows", "call_rows", "disk_rows", "flusher_tests", "record_rows", "row_files", "run_doubles", "store_rows", "unit_tests",
-    "word_rows", "worker_tests",
+    "board_rows", "call_rows", "disk_rows", "record_rows", "row_files", "run_doubles", "store_rows", "unit_tests", "word_rows", "worker_tests",
 }
 # No program stands on these yet.
 LATER_CRATES = set()
