@@ -1,5 +1,5 @@
 -- What is defined before the makefile is read.
-use Rattle.std.specs.Prelude.{ℕ, Bool, true, false, ◌&&◌, List, [], ◌∷◌, ◌++◌, Option, Some, None, reverse, find, option_map, nat_eq, codes, if◌then◌else◌}
+use Rattle.std.specs.Prelude.{ℕ, Bool, true, false, ◌&&◌, ◌||◌, List, [], ◌∷◌, ◌++◌, Option, Some, None, reverse, find, option_map, nat_eq, codes, if◌then◌else◌}
 use Rattle.std.specs.List.{list_any, list_all}
 use Rattle.byte_strings.specs.Blanks.{first_word}
 use Rattle.mk_profile.specs.Profile.{is_wide}
@@ -42,13 +42,17 @@ wide_macros false =
     ∷ variable (codes "RM") (codes "rm -f")
     ∷ []
 
--- the letter of an option without a value, or the hyphen in front of such letters
-abbrev pub is_letter : ℕ → Bool
-is_letter b = list_any (nat_eq b) (codes "-BRSeiknqrstw")
+-- the letter of an option without a value that is taken from MAKEFLAGS (e, i, k, n, q, r, S, s, t: POSIX make; B, R, w: GNU make)
+abbrev pub is_option_letter : ℕ → Bool
+is_option_letter b = list_any (nat_eq b) (codes "BRSeiknqrstw")
+
+-- what may stand in a word beside such a letter: another one, or the hyphen in front of them
+abbrev pub may_be_beside : ℕ → Bool
+may_be_beside b = nat_eq b 45 || is_option_letter b
 
 -- a word of options by their letters alone, and R is one of them
 abbrev pub has_R : (word : List ℕ) → Bool
-has_R word = list_all is_letter word && list_any (nat_eq 82) word
+has_R word = list_all may_be_beside word && list_any (nat_eq 82) word
 
 -- the variable is a MAKEFLAGS that leaves out what rules refer to: its first word has `R` (GNU make, -R)
 abbrev pub says_R : Variable → Bool

@@ -3,7 +3,7 @@ ghost use Rattle.std.specs.Prelude.{◌≡◌, ℕ, List, map, IfOk, OnOk};
 ghost use Rattle.std.specs.List.{list_all};
 ghost use Rattle.mk_macros.specs.Ranks.{defined_by};
 ghost use Rattle.mk_macros.specs.declared.definitions.Rank.TheVariants.{Environment, Tool};
-ghost use Rattle.dmk_reading.specs.Definitions.{last_value, with_last, first_defined, variable, is_letter, has_R, says_R, leaves_out, wide_macros, tool_macros, environment_macros};
+ghost use Rattle.dmk_reading.specs.Definitions.{last_value, with_last, first_defined, variable, is_option_letter, may_be_beside, has_R, says_R, leaves_out, wide_macros, tool_macros, environment_macros};
 
 use crate::keeping::is_named;
 use bd_lists::Variable;
@@ -49,19 +49,27 @@ fn define_all(
     Ok(())
 }
 
-/// The letters of options without values, and what stands in front of them.
-const LETTERS: &[u8] = b"-BRSeiknqrstw";
+/// The letters of options without values that are taken from MAKEFLAGS: those of POSIX make but -f and -p, and what GNU make shares
+/// with dmk.
+const LETTERS: &[u8] = b"BRSeiknqrstw";
 
-fn is_letter(byte: u8) -> bool
-    ensures { result ≡ is_letter byte }
+/// Whether it is such a letter.
+pub fn is_option_letter(byte: u8) -> bool
+    ensures { result ≡ is_option_letter byte }
 {
     LETTERS.contains(&byte)
 }
 
-fn are_letters(word: &[u8]) -> bool
-    ensures { result ≡ list_all is_letter word.now }
+fn may_be_beside(byte: u8) -> bool
+    ensures { result ≡ may_be_beside byte }
 {
-    word.iter().all(|byte| is_letter(*byte))
+    byte == b'-' || is_option_letter(byte)
+}
+
+fn are_letters(word: &[u8]) -> bool
+    ensures { result ≡ list_all may_be_beside word.now }
+{
+    word.iter().all(|byte| may_be_beside(*byte))
 }
 
 fn has_r(word: &[u8]) -> bool

@@ -18,7 +18,7 @@ mod passing;
 mod state_name;
 
 pub use base::base_of;
-pub use definitions::first_macros;
+pub use definitions::{first_macros, is_option_letter};
 pub use graph::{graph_of, judged_graph};
 pub use keeping::{keeps_state, kept_form, value_of};
 pub use laws::{one_makefile, one_reading_of_the_settings, plan_of_the_graph};

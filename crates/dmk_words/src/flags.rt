@@ -10,15 +10,12 @@ use crate::output::Output;
 use crate::request::Later;
 use bd_lists::Variable;
 use byte_strings::ByteStrings;
-use dmk_reading::Options;
+use dmk_reading::{Options, is_option_letter};
 use jb_flags::{
     Handed, Load, definition_words, has_value, jobs_word, load_word, opened_words, words_of,
 };
 use mk_eval::doubled_text;
 use std::alloc::{AllocError, Global};
-
-/// The options that are taken: those of POSIX make but -f and -p, and what GNU make shares with dmk.
-const TAKEN: &[u8] = b"BRSeiknqrstw";
 
 /// The long options that are taken, and handed on.
 const HIDES_FOLDER: &[u8] = b"--no-print-directory";
@@ -124,7 +121,7 @@ fn push_options(
         if has_value(*letter) {
             break;
         }
-        if TAKEN.contains(letter) {
+        if is_option_letter(*letter) {
             word.push(*letter)?;
         }
     }
