@@ -3,6 +3,7 @@ use Rattle.std.proofs.Common.{◌≡◌, ◌∙◌, inl, inr, ℕ, Bool, true, f
 use Rattle.mk_eval.specs.Output.{World}
 use Rattle.mk_eval.specs.Makefile.{InOrder, TextItems, GivesItems, Outcome, behind, depth, with_front}
 use Rattle.mk_macros.specs.Ranks.{Defined}
+use Rattle.mk_reader.specs.BuiltIn.{built_in_name}
 use Rattle.mk_reader.specs.declared.item.Item.{Item}
 use Rattle.mk_reader.specs.declared.fault.ReadFault.{ReadFault}
 use Rattle.mk_reader.specs.declared.fault.Refusal.{Refusal}
@@ -12,7 +13,7 @@ use Rattle.mk_eval.proofs.OrderLemmas.{order_one}
 use Rattle.mk_eval.proofs.OutcomeLemmas.{text_one}
 use Rattle.std.proofs.lemmas.Option.{same_Some}
 use Rattle.dmk_reading.specs.Makefile.{IsUsualMakefile, NamedItems, AllItems, first_name, second_name}
-use Rattle.dmk_reading.specs.BuiltIn.{TellsOwn, standing, reads_rules, rules_name, rules_text, AreRules}
+use Rattle.dmk_reading.specs.BuiltIn.{TellsOwn, standing, reads_rules, rules_text, AreRules}
 use Rattle.dmk_reading.specs.Planned.{AreItems, AreOwnItems, WithRules}
 use Rattle.dmk_reading.specs.Faults.{IsFaultAmong, IsFaultOfOne, IsFaultOfRules, IsOwnFault, IsReadFault, IsRulesFault, IsTextFault}
 use Rattle.dmk_messages.specs.declared.fault.Fault.{Fault}
@@ -209,7 +210,7 @@ own_once world looks (name ∷ names) given a b of_a of_b =
 rules_one : (world : World) (given : Defined) (own : List Item) (a b : Outcome) → AreRules world given own a → AreRules world given own b → a ≡ b
 rules_one world given own a b (own_a, tells_a, text_a) (own_b, tells_b, text_b) =
     let same : own_a ≡ own_b = tells_once given own own_a own_b tells_a tells_b in
-    text_one world depth given rules_name (rules_text (standing own_b)) a b (subst (λ f. TextItems world depth given rules_name (rules_text (standing f)) a) same text_a) text_b
+    text_one world depth given built_in_name (rules_text (standing own_b)) a b (subst (λ f. TextItems world depth given built_in_name (rules_text (standing f)) a) same text_a) text_b
 
 -- what stands behind the tool's rules is one list too
 behind_once : (world : World) (Own : List Item → Type 0) (given : Defined) → ((a b : List Item) → Own a → Own b → a ≡ b) →
@@ -230,13 +231,13 @@ items_once world looks makefiles given =
 
 -- what the rules that stand give is what the tool's rules do
 pub rules_given : (world : World) (given : Defined) (items : List Item) (left : List (List ℕ × List ℕ)) (own : (name : List ℕ) → Bool) → TellsOwn given items own →
-    left ≡ standing own → (outcome : Outcome) → TextItems world depth given rules_name (rules_text left) outcome → AreRules world given items outcome
+    left ≡ standing own → (outcome : Outcome) → TextItems world depth given built_in_name (rules_text left) outcome → AreRules world given items outcome
 rules_given world given items left own tells is outcome read =
-    (own, tells, subst (λ rules. TextItems world depth given rules_name (rules_text rules) outcome) is read)
+    (own, tells, subst (λ rules. TextItems world depth given built_in_name (rules_text rules) outcome) is read)
 
 -- the fault of the tool's rules
 pub rules_refused : (world : World) (given : Defined) (items : List Item) (left : List (List ℕ × List ℕ)) (own : (name : List ℕ) → Bool) → TellsOwn given items own →
-    left ≡ standing own → (fault : ReadFault) → GivesItems (Err fault) (TextItems world depth given rules_name (rules_text left)) →
+    left ≡ standing own → (fault : ReadFault) → GivesItems (Err fault) (TextItems world depth given built_in_name (rules_text left)) →
     IsFaultOfRules world given items (Read fault)
 rules_refused world given items left own tells is OutOfMemory read = tt
 rules_refused world given items left own tells is (Refused refusal) read = rules_given world given items left own tells is (Err refusal) read

@@ -7,6 +7,7 @@ use Rattle.mk_profile.specs.Profile.{is_wide}
 use Rattle.mk_macros.specs.Ranks.{Defined}
 use Rattle.mk_eval.specs.Output.{World}
 use Rattle.mk_eval.specs.Makefile.{Outcome, TextItems, depth}
+use Rattle.mk_reader.specs.BuiltIn.{built_in_name}
 use Rattle.mk_reader.specs.declared.item.Item.{Item}
 use Rattle.mk_reader.specs.declared.item.Item.TheVariants as item
 use Rattle.mk_reader.specs.declared.item.Rule.{Rule}
@@ -60,11 +61,7 @@ rule_lines name recipe = name ++ (58 ∷ 10 ∷ recipe)
 abbrev pub rules_text : List (List ℕ × List ℕ) → List ℕ
 rules_text standing = suffixes_line ++ flat_map (λ rule. rule_lines rule.0 rule.1) standing
 
--- the name that it is read under
-abbrev pub rules_name : List ℕ
-rules_name = codes "(built-in)"
-
 -- what the tool's rules give in front of the makefile's items
 abbrev pub AreRules : (world : World) → Defined → (items : List Item) → Outcome → Type 0
 AreRules world given items outcome =
-    (own : (name : List ℕ) → Bool) × TellsOwn given items own × TextItems world depth given rules_name (rules_text (standing own)) outcome
+    (own : (name : List ℕ) → Bool) × TellsOwn given items own × TextItems world depth given built_in_name (rules_text (standing own)) outcome

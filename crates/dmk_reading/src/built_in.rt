@@ -1,7 +1,8 @@
 //! The rules that are built in.
 ghost use Rattle.std.specs.Prelude.{◌≡◌, ◌++◌, flat_map, IfOk, OnOk};
-ghost use Rattle.dmk_reading.specs.BuiltIn.{texts, rule_lines, rules_text, rules_name, reads_rules};
+ghost use Rattle.dmk_reading.specs.BuiltIn.{texts, rule_lines, rules_text, reads_rules};
 ghost use Rattle.mk_macros.specs.Ranks.{defined_by};
+ghost use Rattle.mk_reader.specs.BuiltIn.{built_in_name};
 ghost use Rattle.mk_eval.specs.Output.{World};
 ghost use Rattle.mk_eval.specs.Makefile.{GivesItems, TextItems, depth};
 
@@ -9,7 +10,7 @@ use crate::makefiles::Makefiles;
 use mk_eval::{Includes, read_makefile};
 use mk_macros::Macros;
 use mk_profile::Profile;
-use mk_reader::{Item, ReadFault};
+use mk_reader::{BUILT_IN, Item, ReadFault};
 use std::alloc::{AllocError, Global};
 
 /// The suffixes that count before a makefile lists its own.
@@ -56,9 +57,6 @@ pub const RULES: [(&[u8], &[u8]); 17] = [
     (b".l.c", LEX_SOURCE),
 ];
 
-/// The name that the rules are read under.
-const NAME: &[u8] = b"(built-in)";
-
 /// Whether the rules are read before makefiles in this language.
 pub fn reads_rules(makefiles: &Makefiles, profile: Profile) -> bool
     ensures { result ≡ reads_rules makefiles.now profile }
@@ -104,9 +102,9 @@ pub fn rules_before<I: Includes>(
     includes: &mut I,
 ) -> Result<Vec<Item>, ReadFault>
     ensures items { (world : World) → I.allows includes.new world → GivesItems result
-        (TextItems world depth (defined_by macros.old) rules_name (rules_text (texts rules.now))) }
+        (TextItems world depth (defined_by macros.old) built_in_name (rules_text (texts rules.now))) }
     ensures grows { (world : World) → I.allows includes.new world → I.allows includes.old world }
 {
     let text = rules_text(alloc, rules)?;
-    read_makefile(alloc, macros, NAME, text.as_slice(), includes)
+    read_makefile(alloc, macros, BUILT_IN, text.as_slice(), includes)
 }

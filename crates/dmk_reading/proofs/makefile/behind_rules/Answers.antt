@@ -1,7 +1,8 @@
 use Rattle.std.proofs.Common.{◌≡◌, subst, Ok, Err}
 use Rattle.mk_eval.specs.Makefile.{GivesItems, TextItems, depth}
 use Rattle.mk_macros.specs.Ranks.{defined_by}
-use Rattle.dmk_reading.specs.BuiltIn.{TellsOwn, texts, standing, rules_name, rules_text}
+use Rattle.mk_reader.specs.BuiltIn.{built_in_name}
+use Rattle.dmk_reading.specs.BuiltIn.{TellsOwn, texts, standing, rules_text}
 use Rattle.dmk_reading.specs.Definitions.{first_defined}
 use Rattle.dmk_reading.proofs.MakefileLemmas.{rules_given, rules_refused}
 use Rattle.dmk_reading.proofs.makefile.behind_rules.Goals as goal
@@ -16,7 +17,7 @@ returns-in-Ok-clause-items g c = λ world text.
     let left : texts c.deref.result.now ≡ standing found.0 = rw c.deref.ensures.value found.2 in (
       c.in-Ok.items.items,
       rules_given world given c.args.own.items (texts c.deref.result.now) found.0 tells left (Ok c.in-Ok.items.items)
-          (subst (λ d. TextItems world depth d rules_name (rules_text (texts c.deref.result.now)) (Ok c.in-Ok.items.items))
+          (subst (λ d. TextItems world depth d built_in_name (rules_text (texts c.deref.result.now)) (Ok c.in-Ok.items.items))
           c.in_ok-macros.ensures (c.in-Ok.ensures.items world text)),
       c.in_ok-append-in-Ok.ensures.items,
     )
@@ -30,5 +31,5 @@ returns-clause-fault g c = λ world text.
     (subst (λ own. TellsOwn (defined_by c.in_ok-above.above) own found.0) c.as_slice.ensures.value found.1) in
     let left : texts c.deref.result.now ≡ standing found.0 = rw c.deref.ensures.value found.2 in
     rules_refused world given c.args.own.items (texts c.deref.result.now) found.0 tells left c.in-Err.fault
-    (subst (λ d. GivesItems (Err c.in-Err.fault) (TextItems world depth d rules_name (rules_text (texts c.deref.result.now))))
+    (subst (λ d. GivesItems (Err c.in-Err.fault) (TextItems world depth d built_in_name (rules_text (texts c.deref.result.now))))
     c.in_ok-macros.ensures (c.in-Err.ensures.items world text))
