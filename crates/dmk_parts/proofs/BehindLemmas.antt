@@ -1,7 +1,7 @@
 -- A graph whose names parts before may have tried, and what was built and what failed.
 use Rattle.std.proofs.Common.{◌≡◌, ◌≢◌, ◌⊎◌, inl, inr, ◌∙◌, suc, not, Result, Ok, Err, IfOk, ◌+◌, ◌<◌, ◌≤◌, ◌||◌, ◌&&◌, nat_eq, ℕ, Bool, true, false, List, [], ◌∷◌, ◌++◌, Some, length, slice_get, get_or, append_assoc, eq-eqb, eqb-true, true≢false, refl, sym, ap, subst, arith}
 use Rattle.std.proofs.lemmas.List.{append-nil}
-use Rattle.std.specs.Prelude.{◌↔◌, map as each, option_map, is_none, is_some, bytes_eq, if◌then◌else◌}
+use Rattle.std.specs.Prelude.{◌↔◌, map as each, option_map, is_none, is_some, bytes_eq}
 use Rattle.std.proofs.lemmas.Bool.{cases_lt, and_parts, and_from, or_cases, or_left, or_right}
 use Rattle.std.proofs.lemmas.Option.{same_Some, slice_get_within}
 use Rattle.std.proofs.lemmas.Slice.Eq.{bytes_eq-Decides}
@@ -16,6 +16,7 @@ use Rattle.bd_places.specs.declared.end.End.TheVariants.{Failed}
 use Rattle.mk_rule_lines.proofs.NameLemmas.{bytes_eq-same}
 use Rattle.mk_graph.specs.Edges.{has}
 use Rattle.mk_names.specs.Names.{name_at, has_name, added}
+use Rattle.mk_names.proofs.NameLemmas.{has_all_added}
 use Rattle.mk_graph.proofs.RowLemmas.{has-push}
 use Rattle.mk_rules.proofs.MadeLemmas.{has_at}
 use Rattle.mk_plan.specs.Nodes.{is_marked}
@@ -360,24 +361,11 @@ failed_all graph ends n names over so_far name = (
 abbrev pub AreKnownSoFar : (made known left : List (List ℕ)) → Type 0
 AreKnownSoFar made known left = (name : List ℕ) → has_name made name ≡ (has_name known name || has_name left name)
 
-or_all : (b : Bool) → (b || true) ≡ true
-or_all true = refl
-or_all false = refl
-
-either_known : (known : List (List ℕ)) (goal name : List ℕ) → has_name (added known goal) name ≡ (has_name known name || bytes_eq name goal)
-either_known known goal name = by (has_name known goal) refl where
-  by : (there : Bool) → has_name known goal ≡ there → has_name (if there then known else known ++ goal ∷ []) name ≡ (has_name known name || bytes_eq name goal)
-  by false absent = list_any-append (bytes_eq name) known (goal ∷ []) ∙ ap (λ b. has_name known name || b) (or_none (bytes_eq name goal))
-  by true present = same (bytes_eq name goal) refl where
-    same : (is : Bool) → bytes_eq name goal ≡ is → has_name known name ≡ (has_name known name || is)
-    same false other = sym (or_none (has_name known name))
-    same true is =
-        let there : has_name known name ≡ true = ap (has_name known) (bytes_eq-same name goal is) ∙ present in
-        there ∙ sym (or_all (has_name known name))
-
 pub known_more : (made known left : List (List ℕ)) (goal : List ℕ) → AreKnownSoFar made known (goal ∷ left) → AreKnownSoFar made (added known goal) left
 known_more made known left goal so name =
-    so name ∙ sym (or_assoc (has_name known name) (bytes_eq name goal) (has_name left name)) ∙ sym (ap (λ b. b || has_name left name) (either_known known goal name))
+    let one : has_name (added known goal) name ≡ (has_name known name || bytes_eq name goal)
+    = has_all_added known (goal ∷ []) name ∙ ap (λ b. has_name known name || b) (or_none (bytes_eq name goal)) in
+    so name ∙ sym (or_assoc (has_name known name) (bytes_eq name goal) (has_name left name)) ∙ sym (ap (λ b. b || has_name left name) one)
 
 -- what follows from three facts of an Ok
 pub three_ok : {T E : Type 0} (got : Result T E) (P Q R S : T → Type 0) → ((value : T) → P value → Q value → R value → S value) →
