@@ -5,5 +5,6 @@ pub mod GraphLemmas
 pub mod KeepingLemmas
 pub mod LostLemmas
 pub mod MakefileLemmas
+pub mod OldLemmas
 pub mod OwnLemmas
 pub mod PassingLemmas

@@ -14,13 +14,14 @@ use Rattle.mk_eval.proofs.OutcomeLemmas.{text_one}
 use Rattle.std.proofs.lemmas.Option.{same_Some}
 use Rattle.dmk_reading.specs.Makefile.{IsUsualMakefile, NamedItems, AllItems, first_name, second_name}
 use Rattle.dmk_reading.specs.BuiltIn.{TellsOwn, standing, reads_rules, rules_text, AreRules}
-use Rattle.dmk_reading.specs.Planned.{AreItems, AreOwnItems, WithRules}
+use Rattle.dmk_reading.specs.Planned.{AreItems, AreAllItems, AreOwnItems, WithRules}
 use Rattle.dmk_reading.specs.Faults.{IsFaultAmong, IsFaultOfOne, IsFaultOfRules, IsOwnFault, IsReadFault, IsRulesFault, IsTextFault}
 use Rattle.dmk_messages.specs.declared.fault.Fault.{Fault}
 use Rattle.dmk_messages.specs.declared.fault.Fault.TheVariants as fault
 use Rattle.dmk_messages.specs.declared.fault.Fault.TheVariants.{Read}
 use Rattle.dmk_reading.specs.declared.makefile.Makefile.{Makefile}
 use Rattle.dmk_reading.specs.declared.makefiles.Makefiles.{Makefiles}
+use Rattle.dmk_reading.proofs.OldLemmas.{without_once}
 use Rattle.dmk_reading.proofs.OwnLemmas.{tells_once}
 use Rattle.mk_nodes.specs.declared.file_look.FileLook.{FileLook}
 
@@ -225,7 +226,8 @@ behind_once world Own given one true a b of_a of_b =
 pub items_once : (world : World) (looks : List ℕ → Option FileLook) (makefiles : Makefiles) (given : Defined) (a b : List Item) →
     AreItems world looks makefiles given a → AreItems world looks makefiles given b → a ≡ b
 items_once world looks makefiles given =
-    behind_once world (AreOwnItems world looks makefiles.named given) given (own_once world looks makefiles.named given) (reads_rules makefiles given.language)
+    without_once makefiles.old given (AreAllItems world looks makefiles given)
+    (behind_once world (AreOwnItems world looks makefiles.named given) given (own_once world looks makefiles.named given) (reads_rules makefiles given.language))
 
 -- ---- all that is read
 
@@ -246,11 +248,11 @@ module _ (world : World) (looks : List ℕ → Option FileLook) (makefiles : Mak
   abbrev Own : List Item → Type 0
   Own items = AreOwnItems world looks makefiles.named given items
 
-  pub without_rules : reads_rules makefiles given.language ≡ false → Own own → AreItems world looks makefiles given own
+  pub without_rules : reads_rules makefiles given.language ≡ false → Own own → AreAllItems world looks makefiles given own
   without_rules reads is = subst (λ b. WithRules b world Own given own) (sym reads) is
 
   pub behind_rules : reads_rules makefiles given.language ≡ true → Own own → (rules items : List Item) → AreRules world given own (Ok rules) →
-      items ≡ rules ++ own → AreItems world looks makefiles given items
+      items ≡ rules ++ own → AreAllItems world looks makefiles given items
   behind_rules reads is rules items are whole =
       subst (λ b. WithRules b world Own given items) (sym reads) (record { rules = rules; own = own; whole = whole; are_rules = are; are_own = is })
 

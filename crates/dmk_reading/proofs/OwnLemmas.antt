@@ -20,7 +20,7 @@ use Rattle.dmk_reading.specs.BuiltIn.{Names, HasOwn, TellsOwn}
 
 -- ---- what a text expands to
 
-words_once : (given : Defined) (text : List ℕ) (ws vs : List (List ℕ)) → AreWordsOf given text ws → AreWordsOf given text vs → ws ≡ vs
+pub words_once : (given : Defined) (text : List ℕ) (ws vs : List (List ℕ)) → AreWordsOf given text ws → AreWordsOf given text vs → ws ≡ vs
 words_once given text ws vs of_a of_b =
     let outcomes : gives of_a.expansion ≡ gives of_b.expansion = expands_once (rule_meanings given) of_a.expands of_b.expands in
     let same : of_a.expansion ≡ of_b.expansion = cc in

@@ -12,6 +12,8 @@ pub mod Makefile
 pub mod Lost
 -- Passing: the nodes passed in order, and which are listed.
 pub mod Passing
+-- OldRules: what is left of items where the rules of some names are ignored.
+pub mod OldRules
 -- Planned: from the text of makefiles to a graph.
 pub mod Planned
 -- Faults: what a fault says that is met before a graph is made.

@@ -19,6 +19,7 @@ use Rattle.st_recovery.specs.Recovers.{RecoversIn}
 use Rattle.dmk_reading.specs.Definitions.{first_defined}
 use Rattle.dmk_reading.specs.BuiltIn.{reads_rules, AreRules}
 use Rattle.dmk_reading.specs.Makefile.{IsUsualMakefile, AllItems}
+use Rattle.dmk_reading.specs.OldRules.{WithoutRulesOf}
 use Rattle.dmk_reading.specs.declared.makefiles.Makefiles.{Makefiles}
 use Rattle.bd_lists.specs.declared.recipe.Variable.{Variable}
 use Rattle.mk_nodes.specs.declared.file_look.FileLook.{FileLook}
@@ -59,9 +60,13 @@ WithRules false world Own given items = Own items
 WithRules true world Own given items = AreBehindRules world Own given items
 
 -- all items: those of the makefiles, behind the tool's rules where these are read
-abbrev pub AreItems : (world : World) (looks : List ℕ → Option FileLook) → Makefiles → Defined → (items : List Item) → Type 0
-AreItems world looks makefiles given =
+abbrev pub AreAllItems : (world : World) (looks : List ℕ → Option FileLook) → Makefiles → Defined → (items : List Item) → Type 0
+AreAllItems world looks makefiles given =
     WithRules (reads_rules makefiles given.language) world (AreOwnItems world looks makefiles.named given) given
+
+-- the items that count: all, or what is left of them where the rules of some names are ignored
+abbrev pub AreItems : (world : World) (looks : List ℕ → Option FileLook) → Makefiles → Defined → (items : List Item) → Type 0
+AreItems world looks makefiles given = WithoutRulesOf makefiles.old given (AreAllItems world looks makefiles given)
 
 -- the graph of these items for the targets that are named, with this state, in the language of the profile
 pub record IsGraphOf (profile : Profile) (definitions environment : List Variable) (targets : List (List ℕ)) (looks : List ℕ → Option FileLook)

@@ -12,6 +12,7 @@ mod laws;
 mod lost;
 mod makefile;
 mod makefiles;
+mod old_rules;
 mod options;
 mod own_rules;
 mod passing;

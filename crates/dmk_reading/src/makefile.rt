@@ -1,12 +1,13 @@
 //! The makefiles: which files they are, and their items.
-ghost use Rattle.std.specs.Prelude.{◌≡◌, ◌++◌, ℕ, List, Option, None, [], Ok, IfOk, IfErr, IfSome, IsTrue, option_map, false};
+ghost use Rattle.std.specs.Prelude.{◌≡◌, ◌≢◌, ◌++◌, ℕ, List, Option, None, [], Ok, IfOk, IfErr, IfSome, IsTrue, option_map, false};
 ghost use Rattle.mk_macros.specs.Ranks.{Defined, defined_by};
 ghost use Rattle.mk_eval.specs.Output.{World};
 ghost use Rattle.mk_eval.specs.Makefile.{behind};
 ghost use Rattle.dmk_reading.specs.Definitions.{first_defined};
 ghost use Rattle.dmk_reading.specs.Makefile.{MayBeThere, IsUsualMakefile, NamedItems, AllItems};
 ghost use Rattle.dmk_reading.specs.BuiltIn.{AreRules};
-ghost use Rattle.dmk_reading.specs.Planned.{AreItems, AreOwnItems};
+ghost use Rattle.dmk_reading.specs.OldRules.{AreLeft};
+ghost use Rattle.dmk_reading.specs.Planned.{AreItems, AreAllItems, AreOwnItems};
 ghost use Rattle.dmk_reading.specs.Faults.{IsTextFault, IsOwnFault, IsFaultOfRules, IsFaultOfOne, IsFaultAmong};
 ghost use Rattle.dmk_messages.specs.declared.fault.Fault.TheVariants.{OutOfMemory, NoMakefile};
 ghost use Rattle.mk_nodes.specs.declared.file_look.FileLook.{FileLook};
@@ -14,6 +15,7 @@ ghost use Rattle.mk_nodes.specs.declared.file_look.FileLook.{FileLook};
 use crate::built_in::{reads_rules, rules_before};
 use crate::definitions::first_macros;
 use crate::makefiles::Makefiles;
+use crate::old_rules::left_items;
 use crate::own_rules::standing_rules;
 use bd_lists::Variable;
 use byte_strings::{ByteString, ByteStrings};
@@ -23,7 +25,7 @@ use mk_macros::Macros;
 use mk_profile::Profile;
 use mk_reader::Item;
 use mk_rules::{Tree, TreeFault};
-use std::alloc::Global;
+use std::alloc::{AllocError, Global};
 use std::rc::Rc;
 
 const FIRST_NAME: &[u8] = b"makefile";
@@ -226,9 +228,8 @@ fn behind_rules<I: Includes>(
     }
 }
 
-/// All items that are read before names are made, in this language: those of the makefiles, behind the tool's rules where these are
-/// read.
-pub fn items_of<T: Tree, I: Includes>(
+/// All items of the makefiles in this language, behind the tool's rules where these are read.
+fn read_items<T: Tree, I: Includes>(
     alloc: Global,
     profile: Profile,
     definitions: &[Variable],
@@ -238,7 +239,7 @@ pub fn items_of<T: Tree, I: Includes>(
     includes: &mut I,
 ) -> Result<Vec<Item>, Fault>
     ensures items { IfOk result (λ items. (world : World) (looks : List ℕ → Option FileLook) → I.allows includes.new world → T.allows tree.new looks
-        → AreItems world looks makefiles.now (first_defined profile definitions.now environment.now) items.items) }
+        → AreAllItems world looks makefiles.now (first_defined profile definitions.now environment.now) items.items) }
     ensures fault { IfErr result (λ fault. (world : World) (looks : List ℕ → Option FileLook) → I.allows includes.new world → T.allows tree.new looks
         → IsTextFault world looks (T.refuses tree.new) makefiles.now (first_defined profile definitions.now environment.now) fault) }
     ensures looks { (looks : List ℕ → Option FileLook) → T.allows tree.new looks → T.allows tree.old looks }
@@ -259,4 +260,55 @@ pub fn items_of<T: Tree, I: Includes>(
     } else {
         Ok(own)
     }
+}
+
+/// What counts of items where the rules of these names are ignored.
+fn items_without(
+    alloc: Global,
+    profile: Profile,
+    definitions: &[Variable],
+    environment: &[Variable],
+    old: &ByteStrings,
+    items: Vec<Item>,
+) -> Result<Vec<Item>, AllocError>
+    ensures none { IfOk result (λ left. old.now ≡ [] → left.items ≡ items.items) }
+    ensures some { IfOk result (λ left. old.now ≢ [] → AreLeft old.now (first_defined profile definitions.now environment.now) items.items left.items) }
+{
+    if old.is_empty() {
+        return Ok(items);
+    }
+    let mut macros = first_macros(alloc, profile, definitions, environment)?;
+    left_items(alloc, old, &mut macros, items)
+}
+
+/// All items that count before names are made, in this language: those of the makefiles, behind the tool's rules where these are
+/// read, without the rules of files that are taken as old.
+pub fn items_of<T: Tree, I: Includes>(
+    alloc: Global,
+    profile: Profile,
+    definitions: &[Variable],
+    environment: &[Variable],
+    makefiles: &Makefiles,
+    tree: &mut T,
+    includes: &mut I,
+) -> Result<Vec<Item>, Fault>
+    ensures items { IfOk result (λ items. (world : World) (looks : List ℕ → Option FileLook) → I.allows includes.new world → T.allows tree.new looks
+        → AreItems world looks makefiles.now (first_defined profile definitions.now environment.now) items.items) }
+    ensures fault { IfErr result (λ fault. (world : World) (looks : List ℕ → Option FileLook) → I.allows includes.new world → T.allows tree.new looks
+        → IsTextFault world looks (T.refuses tree.new) makefiles.now (first_defined profile definitions.now environment.now) fault) }
+    ensures looks { (looks : List ℕ → Option FileLook) → T.allows tree.new looks → T.allows tree.old looks }
+    ensures kept { (n : List ℕ) → T.refuses tree.old n → T.refuses tree.new n }
+{
+    let items = read_items(
+        alloc,
+        profile,
+        definitions,
+        environment,
+        makefiles,
+        tree,
+        includes,
+    )?;
+    let old = &makefiles.old;
+    let left = items_without(alloc, profile, definitions, environment, old, items)?;
+    Ok(left)
 }

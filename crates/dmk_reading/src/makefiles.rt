@@ -10,6 +10,8 @@ pub struct Makefiles {
     pub folders: ByteStrings,
     /// The rules that are built in aren't read in front of them.
     pub without_rules: bool,
+    /// The files that are taken as old: their rules are ignored.
+    pub old: ByteStrings,
 }
 
 impl Drop for Makefiles {
@@ -18,6 +20,7 @@ impl Drop for Makefiles {
             named: _,
             folders: _,
             without_rules: _,
+            old: _,
         } = self;
     }
 }

@@ -55,7 +55,11 @@ fn unless_out_of_memory(fault: MacroFault) -> Result<(), AllocError>
 }
 
 /// What a rule's targets expand to, if they have an expansion. A line without one is refused once all lines are expanded.
-fn expansion(alloc: Global, macros: &Macros, text: &[u8]) -> Result<Option<Vec<u8>>, AllocError>
+pub(crate) fn expansion(
+    alloc: Global,
+    macros: &Macros,
+    text: &[u8],
+) -> Result<Option<Vec<u8>>, AllocError>
     ensures some { IfOk result (λ found. IfSome found (λ v. ExpandsTo (rule_meanings (defined_by macros.now)) text.now (gives v.items))) }
     ensures none { IfOk result (λ found. found ≡ None → (bytes : List ℕ) → ExpandsTo (rule_meanings (defined_by macros.now)) text.now (gives bytes) → ⊥) }
 {
@@ -69,7 +73,11 @@ fn expansion(alloc: Global, macros: &Macros, text: &[u8]) -> Result<Option<Vec<u
 }
 
 /// Takes a definition of the makefile into the macros.
-fn define(alloc: Global, macros: &mut Macros, definition: &Definition) -> Result<(), AllocError>
+pub(crate) fn define(
+    alloc: Global,
+    macros: &mut Macros,
+    definition: &Definition,
+) -> Result<(), AllocError>
     ensures { OnOk result (defined_by macros.new ≡ behind (defined_by macros.old) definition.now) }
 {
     macros.define(
