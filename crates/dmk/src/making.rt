@@ -7,12 +7,12 @@ use crate::duty::duty_of;
 use crate::state_lock::{LockPlace, StateLock};
 use bd_flusher::Receipt;
 use bd_lists::{Exec, Variable};
-use byte_strings::ByteStrings;
 use dmk_files::{FileTexts, FileTree};
 use dmk_host::{
-    HostFiles, IncludeFolders, Patient, PoolPath, TrustedPlace, base_asked, beside_recipes,
-    buffered, draws_status, locks_above, needs_usual_makefile, print_gnu_makefile, print_notes,
-    print_reasons, prints_to_log, reports_path, streams_are_one, tell_definitions, with_patience,
+    HostFiles, HostTrees, IncludeFolders, Patient, PoolPath, TrustedPlace, base_asked,
+    beside_recipes, buffered, draws_status, locks_above, needs_usual_makefile, print_gnu_makefile,
+    print_notes, print_reasons, prints_to_log, reports_path, streams_are_one, tell_definitions,
+    with_patience,
 };
 use dmk_locks::wait_for_janitors;
 use dmk_printing::{Front, Lending, Printer, followed};
@@ -83,13 +83,12 @@ struct Outfit<'a, R: Wait> {
 /// The files of this machine, looked at anew.
 #[derive(Drop)]
 struct HostLooks<'a> {
-    host: HostRuntime,
-    touched: &'a ByteStrings,
+    trees: &'a HostTrees,
 }
 
 impl<'a> Looks<FileTree<HostFiles<'a>>> for HostLooks<'a> {
     fn anew(&self) -> FileTree<HostFiles<'a>> {
-        HostFiles::tree(self.host, self.touched)
+        self.trees.tree()
     }
 }
 
@@ -352,7 +351,7 @@ fn make_with<'a, 'f, R: Threads + Wait + Sync>(
     rt: &'a R,
     host: HostRuntime,
     options: Options,
-    touched: &'f ByteStrings,
+    trees: &'f HostTrees,
     environment: &[Variable],
     makefiles: &mut FileTexts<HostFiles<'f>>,
     outfit: Outfit<'_, R>,
@@ -391,7 +390,7 @@ fn make_with<'a, 'f, R: Threads + Wait + Sync>(
         place: &place,
         shell: &before.shell,
     };
-    let looks = HostLooks { host, touched };
+    let looks = HostLooks { trees };
     let mut banks = FifoBanks::new(host, "mkfifo");
     let (status, disk) = make_by_shell::<
         HostMachine<'_, 'f, '_, R>,
@@ -442,7 +441,7 @@ pub fn make<R: Threads + Wait + Sync>(
     }
     let env = beside_recipes(host, &options, later, environment)?;
     let folders = IncludeFolders::of(host.alloc(), &options.makefiles)?;
-    let touched = options.touched.copy(host.alloc())?;
+    let trees = HostTrees::of(host, &options)?;
     let mut makefiles = HostFiles::texts(host, options.profile, input, &env, &folders);
     tell_definitions(host, &options, later, environment, &mut makefiles)?;
     let base = base_asked(host, &options, environment, &mut makefiles)?;
@@ -457,7 +456,7 @@ pub fn make<R: Threads + Wait + Sync>(
         rt,
         host,
         options,
-        &touched,
+        &trees,
         environment,
         &mut makefiles,
         outfit,

@@ -9,7 +9,7 @@ use bd_lists::Variable;
 use dmk_dry::{AlwaysRun, drive};
 use dmk_files::FileTexts;
 use dmk_host::{
-    AlwaysLines, HostFiles, IncludeFolders, LineSettings, base_asked, beside_recipes,
+    AlwaysLines, HostFiles, HostTrees, IncludeFolders, LineSettings, base_asked, beside_recipes,
     needs_usual_makefile, print_gnu_makefile, print_notes, print_reasons, tell_definitions,
     with_locks_told, with_patience,
 };
@@ -101,15 +101,15 @@ impl Look {
     {
         let is_usual = needs_usual_makefile(&options);
         let Room { folder, mut look } = room;
-        let touched = match options.touched.copy(host.alloc()) {
-            Ok(touched) => touched,
+        let trees = match HostTrees::of(host, &options) {
+            Ok(trees) => trees,
             Err(error) => {
                 drop(options);
                 drop(look);
                 return Err(error);
             }
         };
-        let tree = HostFiles::tree(host, &touched);
+        let tree = trees.tree();
         let disk = FileDisk::new(folder);
         let (is_told, disk) = look.take(host, options, environment, tree, makefiles, disk);
         print_notes(host.alloc(), &mut look.err, makefiles);

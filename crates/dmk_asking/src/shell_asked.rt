@@ -1,8 +1,7 @@
 //! The shell that runs lines in a dry run.
 use bd_lists::Variable;
-use byte_strings::ByteStrings;
 use dmk_files::FileTexts;
-use dmk_host::HostFiles;
+use dmk_host::{HostFiles, HostTrees};
 use dmk_messages::Fault;
 use dmk_reading::{Makefiles, Options, first_macros, items_of};
 use mk_eval::Includes;
@@ -68,8 +67,8 @@ impl ShellSource {
         if !self.profile.is_wide() {
             return Ok(Vec::new(alloc));
         }
-        let none = ByteStrings::empty(alloc);
-        self.shell_over(alloc, environment, HostFiles::tree(host, &none), texts)
+        let trees = HostTrees::plain(host);
+        self.shell_over(alloc, environment, trees.tree(), texts)
     }
 
     /// The same over files of any types, which are made concrete once, at the call.

@@ -1,5 +1,5 @@
 //! What -p prints, before all else.
-use crate::host_files::HostFiles;
+use crate::host_files::{HostFiles, HostTrees};
 use bd_lists::Variable;
 use dmk_files::FileTexts;
 use dmk_reading::{Options, base_of};
@@ -18,13 +18,8 @@ pub fn base_asked(
     if !options.prints_base {
         return Ok(Vec::new(alloc));
     }
-    base_over(
-        alloc,
-        options,
-        environment,
-        HostFiles::tree(host, &options.touched),
-        makefiles,
-    )
+    let trees = HostTrees::of(host, options)?;
+    base_over(alloc, options, environment, trees.tree(), makefiles)
 }
 
 /// The same over files of any types, which are made concrete once, at the call.

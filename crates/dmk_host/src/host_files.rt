@@ -9,6 +9,7 @@ use crate::standard_streams::with_patience;
 use bd_lists::Variable;
 use byte_strings::ByteStrings;
 use dmk_files::{FileCalls, FileStatus, FileTexts, FileTree};
+use dmk_reading::Options;
 use dmk_words::INPUT;
 use jb_host::{DryShell, Written};
 use mk_profile::Profile;
@@ -56,26 +57,50 @@ fn read_whole<R: Read>(alloc: Global, file: &mut R, length: u64) -> io::Result<V
     Ok(text)
 }
 
-impl<'a> HostFiles<'a> {
-    /// The files as they are judged, of which these count as changed later than all others. Nothing is known yet of any.
-    pub fn tree(rt: HostRuntime, touched: &'a ByteStrings) -> FileTree<HostFiles<'a>>
+/// Makes the trees of files of this machine, as they are judged, by what the words say of them.
+#[derive(Drop)]
+pub struct HostTrees {
+    rt: HostRuntime,
+    /// The files that count as changed later than all others.
+    touched: ByteStrings,
+}
+
+impl HostTrees {
+    /// The files as these options say.
+    pub fn of(rt: HostRuntime, options: &Options) -> Result<HostTrees, AllocError> {
+        let touched = options.touched.copy(rt.alloc())?;
+        Ok(HostTrees { rt, touched })
+    }
+
+    /// The files as they are.
+    pub fn plain(rt: HostRuntime) -> HostTrees {
+        HostTrees {
+            rt,
+            touched: ByteStrings::empty(rt.alloc()),
+        }
+    }
+
+    /// A tree of which nothing is known yet.
+    pub fn tree(&self) -> FileTree<HostFiles<'_>>
         ensures { (name : List ℕ) → known_stamp result.stamps name ≡ None }
     {
         let looks = Looks::new();
         FileTree::new(
-            rt.alloc(),
+            self.rt.alloc(),
             HostFiles {
-                rt,
+                rt: self.rt,
                 looks,
                 input: None,
                 env: &[],
                 profile: Profile::Strict,
                 folders: None,
-                touched: Some(touched),
+                touched: Some(&self.touched),
             },
         )
     }
+}
 
+impl<'a> HostFiles<'a> {
     /// The files as makefiles are read from them, and from standard input where that was read.
     pub fn texts(
         rt: HostRuntime,

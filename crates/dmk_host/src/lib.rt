@@ -26,7 +26,7 @@ pub use base::base_asked;
 pub use child_signal::run_anew;
 pub use definitions_told::tell_definitions;
 pub use folder::{FolderFault, enter, tell};
-pub use host_files::{HostFiles, read_input};
+pub use host_files::{HostFiles, HostTrees, read_input};
 pub use include_folders::IncludeFolders;
 pub use memory::keep_blocks;
 pub use pool_path::{PoolPath, reports_path};
