@@ -71,7 +71,7 @@ impl Running {
 }
 
 /// What is to be printed of what a recipe wrote.
-#[derive(Clone, Copy, Debug, PartialEq, Eq)]
+#[derive(Clone, Copy)]
 pub(crate) enum Due {
     Nothing,
     /// It has the front, and lines of it are whole.

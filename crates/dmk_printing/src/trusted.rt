@@ -1,7 +1,7 @@
 //! What is said of targets that are taken as they are.
 
 /// What came of taking targets as they are.
-#[derive(Clone, Copy, Debug, PartialEq, Eq)]
+#[derive(Clone, Copy)]
 pub enum Trusted {
     /// No state is kept.
     Unkept,

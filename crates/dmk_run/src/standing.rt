@@ -14,7 +14,7 @@ use std::io::Write;
 use std::sync::Wait;
 
 /// What became of the file of a target that was judged up to date.
-#[derive(Clone, Copy, Debug, PartialEq, Eq)]
+#[derive(Clone, Copy, PartialEq, Eq)]
 pub(crate) enum Since {
     /// It is the one that was judged, or a folder.
     Same,
@@ -27,7 +27,7 @@ fn is_run(end: &End) -> bool {
 }
 
 /// Where a walk from the goals comes next.
-#[derive(Clone, Copy, Debug, PartialEq, Eq)]
+#[derive(Clone, Copy)]
 enum Step {
     To(usize),
     /// Behind all that the node needs.

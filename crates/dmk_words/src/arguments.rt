@@ -93,7 +93,7 @@ fn operands<'a>(alloc: Global) -> Arg<'a> {
 }
 
 /// Adds one. Over any type: one that finds no memory is let go by one call.
-fn add<T: Drop>(list: &mut Vec<T>, item: T) -> Result<(), AllocError> {
+pub(crate) fn add<T: Drop>(list: &mut Vec<T>, item: T) -> Result<(), AllocError> {
     match list.push(item) {
         Ok(()) => Ok(()),
         Err(_) => Err(AllocError),

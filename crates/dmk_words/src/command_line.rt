@@ -2,7 +2,7 @@
 ghost use Rattle.std.specs.Prelude.{◌≡◌, false, IfOk};
 ghost use Rattle.dmk_reading.specs.Asked.{AsksToRun};
 
-use crate::arguments::{find, output_of, refusal};
+use crate::arguments::{add, find, output_of, refusal};
 use crate::definition::definition_in;
 use crate::descriptors::with_pool_path;
 use crate::environment::read_environment;
@@ -35,7 +35,7 @@ const STRICT: Above = Above {
 /// The words of the command line, each -j without a number with that of the processors.
 fn given_words(rt: HostRuntime, processors: &str) -> Result<Vec<String>, WordsFault> {
     let words = env::args(&rt)?.collect::<Vec<String>>(rt.alloc())?;
-    Ok(with_numbers(rt.alloc(), words, processors)?)
+    Ok(with_numbers(rt.alloc(), &words, processors)?)
 }
 
 /// What the words that were found ask for. The help, the version or what is wrong with them is printed.
@@ -53,33 +53,63 @@ fn answered(
 /// Reads the words, and prints the help, the version or what is wrong with them. A -j without a number has that of the processors.
 /// In the strict profile -j may stand once.
 pub fn read_words(rt: HostRuntime, processors: u16) -> Result<Request, WordsFault> {
-    let alloc = rt.alloc();
-    let count = format!(in alloc; "{processors}")?;
+    let count = format!(in rt.alloc(); "{processors}")?;
     let environment = read_environment(rt)?;
-    let makeflags = value_of(&environment, b"MAKEFLAGS");
-    let words = given_words(rt, count.as_str())?;
-    let found = find(alloc, count.as_str(), ArgAction::Set, &words);
-    if !is_wide(&found, &environment) && !is_wide_with_jobs(alloc, &found, &words, &environment) {
-        return checked(answered(rt, found, STRICT), makeflags);
+    let asked = read_by(rt, processors, count.as_str(), &environment);
+    checked(asked, value_of(&environment, b"MAKEFLAGS"))
+}
+
+/// The same by this environment, where the number of the processors is also a text.
+fn read_by(
+    rt: HostRuntime,
+    processors: u16,
+    count: &str,
+    environment: &[Variable],
+) -> Result<Request, WordsFault> {
+    let words = given_words(rt, count)?;
+    let found = find(rt.alloc(), count, ArgAction::Set, &words);
+    if is_wide(&found, environment) || is_wide_with_jobs(rt.alloc(), &found, &words, environment) {
+        drop(found);
+        return read_wide(rt, processors, count, environment, words);
     }
-    drop(found);
-    let program = program_of(rt, &words, &environment)?;
-    let Some(words) = with_flags(alloc, words, makeflags)? else {
-        return Err(WordsFault::FlagsNotText);
-    };
-    let flags = with_pool_path(rt, makeflags)?;
-    let above = workers_by(alloc, &flags, processors, MAX_WORKERS)?;
-    let found = find(alloc, count.as_str(), ArgAction::Append, &words);
-    match answered(rt, found, above) {
-        Ok(asked) => {
-            let level = level_in(&environment);
-            checked(Ok(run_by(program, level, asked)), makeflags)
-        }
+    answered(rt, found, STRICT)
+}
+
+/// The same in the wide profile.
+fn read_wide(
+    rt: HostRuntime,
+    processors: u16,
+    count: &str,
+    environment: &[Variable],
+    words: Vec<String>,
+) -> Result<Request, WordsFault> {
+    let program = program_of(rt, &words, environment)?;
+    match read_with_flags(rt, processors, count, environment, words) {
+        Ok(asked) => Ok(run_by(program, level_in(environment), asked)),
         Err(fault) => {
             drop(program);
             Err(fault)
         }
     }
+}
+
+/// What the words behind those of MAKEFLAGS ask for.
+fn read_with_flags(
+    rt: HostRuntime,
+    processors: u16,
+    count: &str,
+    environment: &[Variable],
+    words: Vec<String>,
+) -> Result<Request, WordsFault> {
+    let makeflags = value_of(environment, b"MAKEFLAGS");
+    let Some(words) = with_flags(rt.alloc(), words, makeflags)? else {
+        return Err(WordsFault::FlagsNotText);
+    };
+    let flags = with_pool_path(rt, makeflags)?;
+    let above = workers_by(rt.alloc(), &flags, processors, MAX_WORKERS)?;
+    drop(flags);
+    let found = find(rt.alloc(), count, ArgAction::Append, &words);
+    answered(rt, found, above)
 }
 
 /// What MAKE is, by the first of the words.
@@ -188,22 +218,36 @@ fn with_flags(
     words: Vec<String>,
     makeflags: &[u8],
 ) -> Result<Option<Vec<String>>, AllocError> {
-    let mut all = Vec::new(alloc);
     let mut words = words.into_iter();
-    if let Some(program) = words.next() {
-        all.push(program)?;
-    }
-    all.push(String::from_str(alloc, "--posix")?)?;
-    for taken in &taken_words(alloc, makeflags)? {
-        match str::from_utf8(taken) {
-            Ok(taken) => all.push(String::from_str(alloc, taken)?)?,
-            Err(_) => return Ok(None),
-        }
+    let mut all = Vec::new(alloc);
+    let program = words.next();
+    if !push_front(alloc, &mut all, program, makeflags)? {
+        return Ok(None);
     }
     for word in words {
-        all.push(word)?;
+        add(&mut all, word)?;
     }
     Ok(Some(all))
+}
+
+/// Adds what stands before them: the program's name, the profile, what MAKEFLAGS has. Whether that is UTF-8.
+fn push_front(
+    alloc: Global,
+    all: &mut Vec<String>,
+    program: Option<String>,
+    makeflags: &[u8],
+) -> Result<bool, AllocError> {
+    if let Some(program) = program {
+        add(all, program)?;
+    }
+    add(all, String::from_str(alloc, "--posix")?)?;
+    for word in &taken_words(alloc, makeflags)? {
+        let Ok(text) = str::from_utf8(word) else {
+            return Ok(false);
+        };
+        add(all, String::from_str(alloc, text)?)?;
+    }
+    Ok(true)
 }
 
 // What the words that were found ask for, unless it is refused by name.
@@ -212,13 +256,24 @@ fn request_of(alloc: Global, found: &ArgMatches<'_>, above: Above) -> Result<Req
         return Err(fault);
     }
     let asked = asked_of(alloc, found, above)?;
-    if asked.options.state.as_str() == "-" {
-        return Err(WordsFault::StateInput);
+    match input_fault(&asked.options) {
+        Some(fault) => {
+            drop(asked);
+            Err(fault)
+        }
+        None => Ok(Request::Make(asked)),
     }
-    if inputs_in(&asked.options) > 1 {
-        return Err(WordsFault::InputTwice);
+}
+
+/// What is asked of standard input that it can't give.
+fn input_fault(options: &Options) -> Option<WordsFault> {
+    if options.state.as_str() == "-" {
+        return Some(WordsFault::StateInput);
     }
-    Ok(Request::Make(asked))
+    if inputs_in(options) > 1 {
+        return Some(WordsFault::InputTwice);
+    }
+    None
 }
 
 /// How often standard input is named as a makefile.
@@ -330,10 +385,13 @@ fn named_workers(found: &ArgMatches<'_>) -> Option<u16> {
 
 /// The options that were found, with so many workers, without the words.
 fn options_of(alloc: Global, found: &ArgMatches<'_>, workers: u16) -> Result<Options, AllocError> {
+    let makefiles = makefiles_of(alloc, found)?;
+    let touched = touched_of(alloc, found)?;
+    let state = String::from_str(alloc, found.get_str("state").unwrap_or(""))?;
     Ok(Options {
-        makefiles: makefiles_of(alloc, found)?,
+        makefiles,
         profile: profile_of(found),
-        state: String::from_str(alloc, found.get_str("state").unwrap_or(""))?,
+        state,
         workers,
         goes_on: found.contains_id("goes_on"),
         is_dry: found.contains_id("dry"),
@@ -345,15 +403,27 @@ fn options_of(alloc: Global, found: &ArgMatches<'_>, workers: u16) -> Result<Opt
         prints_base: found.contains_id("base"),
         definitions: Vec::new(alloc),
         targets: ByteStrings::empty(alloc),
-        touched: touched_of(alloc, found)?,
+        touched,
     })
+}
+
+/// Adds the words that were found.
+fn add_words(
+    alloc: Global,
+    found: &ArgMatches<'_>,
+    options: &mut Options,
+) -> Result<(), AllocError> {
+    for word in found.get_strs("words").unwrap_or(&[]) {
+        add_word(alloc, options, *word)?;
+    }
+    Ok(())
 }
 
 /// The folders that were found.
 fn folders_of(alloc: Global, found: &ArgMatches<'_>) -> Result<Vec<String>, AllocError> {
     let mut folders = Vec::new(alloc);
     for folder in found.get_strs("folders").unwrap_or(&[]) {
-        folders.push(String::from_str(alloc, *folder)?)?;
+        add(&mut folders, String::from_str(alloc, *folder)?)?;
     }
     Ok(folders)
 }
@@ -368,28 +438,36 @@ fn tells_folder(found: &ArgMatches<'_>) -> bool {
 
 fn asked_of(alloc: Global, found: &ArgMatches<'_>, above: Above) -> Result<Asked, AllocError> {
     let named = named_workers(found);
+    let folders = folders_of(alloc, found)?;
     let mut options = options_of(alloc, found, named.unwrap_or(above.workers))?;
-    for word in found.get_strs("words").unwrap_or(&[]) {
-        add_word(alloc, &mut options, *word)?;
+    if let Err(error) = add_words(alloc, found, &mut options) {
+        drop(options);
+        drop(folders);
+        return Err(error);
     }
     Ok(Asked {
-        folders: folders_of(alloc, found)?,
+        folders,
         tells_folder: tells_folder(found),
         program: None,
-        later: Later {
-            environment_counts: found.contains_id("environment"),
-            without_macros: found.contains_id(NO_MACROS),
-            names_state: found.contains_id("state"),
-            trusts_files: found.contains_id("trusts_files"),
-            has_jobs: named.is_some() || above.is_said,
-            output: output_of(found),
-            most_load: load_of(found),
-            prints_ends: found.contains_id("progress"),
-            hides_folder: found.contains_id("untold"),
-            tells_undefined: found.contains_id(UNDEFINED),
-            tells_folder: found.contains_id("told") && !found.contains_id("untold"),
-            level: 0,
-        },
+        later: later_of(found, named.is_some() || above.is_said),
         options,
     })
+}
+
+/// What was found beside the options.
+fn later_of(found: &ArgMatches<'_>, has_jobs: bool) -> Later {
+    Later {
+        environment_counts: found.contains_id("environment"),
+        without_macros: found.contains_id(NO_MACROS),
+        names_state: found.contains_id("state"),
+        trusts_files: found.contains_id("trusts_files"),
+        has_jobs,
+        output: output_of(found),
+        most_load: load_of(found),
+        prints_ends: found.contains_id("progress"),
+        hides_folder: found.contains_id("untold"),
+        tells_undefined: found.contains_id(UNDEFINED),
+        tells_folder: found.contains_id("told") && !found.contains_id("untold"),
+        level: 0,
+    }
 }

@@ -116,28 +116,32 @@ fn with_own(
     if !profile.is_wide() {
         return Ok(environment);
     }
-    let alloc = rt.alloc();
-    let flags = with_pool_path(rt, value_of(&environment, b"MAKEFLAGS"))?;
-    let mut variables = Vec::with_capacity(alloc, environment.len())?;
-    let has_make = has_variable(&environment, b"MAKE");
-    let has_level = has_variable(&environment, b"MAKELEVEL");
-    for variable in environment {
-        if is_given(variable.name.as_slice()) {
-            variables.push(variable)?;
-        }
-    }
+    let mut variables = environment;
+    set_own(rt, program, &mut variables)?;
+    Ok(variables)
+}
+
+/// The same for variables in the wide language.
+fn set_own(
+    rt: HostRuntime,
+    program: Option<&[u8]>,
+    variables: &mut Vec<Variable>,
+) -> Result<(), AllocError> {
+    let flags = with_pool_path(rt, value_of(variables, b"MAKEFLAGS"))?;
+    let has_make = has_variable(variables, b"MAKE");
+    let has_level = has_variable(variables, b"MAKELEVEL");
+    variables.retain(|variable| is_given(variable.name.as_slice()));
     if let Ok(folder) = env::current_dir(&rt) {
-        push(alloc, &mut variables, b"CURDIR", folder.as_str().as_bytes())?;
+        push(rt.alloc(), variables, b"CURDIR", folder.as_str().as_bytes())?;
     }
-    push(alloc, &mut variables, b"MAKEFLAGS", &flags)?;
+    push(rt.alloc(), variables, b"MAKEFLAGS", &flags)?;
     if !has_level {
-        push(alloc, &mut variables, b"MAKELEVEL", b"0")?;
+        push(rt.alloc(), variables, b"MAKELEVEL", b"0")?;
     }
     match program {
-        Some(program) if !has_make => push(alloc, &mut variables, b"MAKE", program)?,
-        _ => {}
+        Some(program) if !has_make => push(rt.alloc(), variables, b"MAKE", program),
+        _ => Ok(()),
     }
-    Ok(variables)
 }
 
 /// The variables that macros see, in the language that these options and the environment's MAKEFLAGS ask for. This is what MAKE is
@@ -191,20 +195,44 @@ pub fn with_environment(
     let mut options = options;
     options.profile = options.language(value_of(environment, b"MAKEFLAGS"));
     if !later.names_state {
-        options.state = usual_state(alloc, options.profile, first_makefile(&options))?;
+        match usual_state(alloc, options.profile, first_makefile(&options)) {
+            Ok(state) => options.state = state,
+            Err(error) => {
+                drop(options);
+                return Err(error);
+            }
+        }
     }
     if !later.environment_counts {
         return Ok(options);
     }
     let given = given_in(options.profile, environment);
-    let mut definitions = Vec::with_capacity(alloc, given)?;
-    for variable in environment.iter().take(given) {
-        definitions.push(Variable {
-            name: variable.name.copy(alloc)?,
-            value: variable.value.copy(alloc)?,
-        })?;
+    match put_before(alloc, &mut options.definitions, environment, given) {
+        Ok(()) => Ok(options),
+        Err(error) => {
+            drop(options);
+            Err(error)
+        }
     }
-    definitions.append(&mut options.definitions)?;
-    options.definitions = definitions;
-    Ok(options)
+}
+
+/// Puts so many of the environment's variables before these definitions.
+fn put_before(
+    alloc: Global,
+    definitions: &mut Vec<Variable>,
+    environment: &[Variable],
+    given: usize,
+) -> Result<(), AllocError> {
+    let mut all = Vec::with_capacity(alloc, given)?;
+    for variable in environment.iter().take(given) {
+        push(
+            alloc,
+            &mut all,
+            variable.name.as_slice(),
+            variable.value.as_slice(),
+        )?;
+    }
+    all.append(definitions)?;
+    *definitions = all;
+    Ok(())
 }

@@ -148,33 +148,47 @@ fn take_long(
 /// The options and definitions of MAKEFLAGS, as words of the command line. The first word may be letters without a hyphen; behind `--` there
 /// are definitions alone.
 pub fn taken_words(alloc: Global, makeflags: &[u8]) -> Result<ByteStrings, AllocError> {
+    let words = words_of(alloc, makeflags)?;
     let mut taken = ByteStrings::empty(alloc);
     let mut are_letters = true;
     let mut has_options = true;
-    let words = words_of(alloc, makeflags)?;
     let mut ahead = words.iter();
     let _first = ahead.next();
     for word in &words {
         let next = ahead.next();
-        match word.strip_prefix(b"-") {
-            Some(b"-") => has_options = false,
-            Some([b'-', ..]) if has_options && is_long_taken(word) => taken.push(word)?,
-            Some([b'-', ..]) if has_options => take_long(alloc, &mut taken, word, next)?,
-            Some([b'-', ..]) => {}
-            Some(letters) if has_options => push_options(alloc, &mut taken, letters, next)?,
-            None if word.contains(&b'=') => taken.push(word)?,
-            None if are_letters => push_options(alloc, &mut taken, word, next)?,
-            _ => {}
+        if word == b"--".as_slice() {
+            has_options = false;
+        } else if has_options {
+            take_word(alloc, &mut taken, word, next, are_letters)?;
+        } else if !word.starts_with(b"-") && word.contains(&b'=') {
+            taken.push(word)?;
         }
         are_letters = false;
     }
     Ok(taken)
 }
 
+/// Takes what a word before `--` says. `are_letters`: it is the first one.
+fn take_word(
+    alloc: Global,
+    taken: &mut ByteStrings,
+    word: &[u8],
+    next: Option<&[u8]>,
+    are_letters: bool,
+) -> Result<(), AllocError> {
+    match word.strip_prefix(b"-") {
+        Some([b'-', ..]) if is_long_taken(word) => taken.push(word),
+        Some([b'-', ..]) => take_long(alloc, taken, word, next),
+        Some(letters) => push_options(alloc, taken, letters, next),
+        None if word.contains(&b'=') => taken.push(word),
+        None if are_letters => push_options(alloc, taken, word, next),
+        None => Ok(()),
+    }
+}
+
 /// The letters of options that makes below are told.
 fn option_word(alloc: Global, options: &Options, later: Later) -> Result<Vec<u8>, AllocError> {
-    let mut word = Vec::new(alloc);
-    for (is_set, letter) in [
+    let letters = [
         (options.makes_all, b'B'),
         (later.environment_counts, b'e'),
         (options.ignores_statuses, b'i'),
@@ -185,12 +199,19 @@ fn option_word(alloc: Global, options: &Options, later: Later) -> Result<Vec<u8>
         (later.without_macros, b'R'),
         (options.is_silent, b's'),
         (later.tells_folder, b'w'),
-    ] {
-        if is_set {
+    ];
+    word_of(alloc, &letters)
+}
+
+/// The word of those letters that are set.
+fn word_of(alloc: Global, letters: &[(bool, u8)]) -> Result<Vec<u8>, AllocError> {
+    let mut word = Vec::new(alloc);
+    for (is_set, letter) in letters {
+        if *is_set {
             if word.is_empty() {
                 word.push(b'-')?;
             }
-            word.push(letter)?;
+            word.push(*letter)?;
         }
     }
     Ok(word)

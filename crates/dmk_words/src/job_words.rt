@@ -1,6 +1,7 @@
 //! Options whose value may be left out, where another word stands behind them: the number of a -j is that of the processors.
 ghost use Rattle.std.specs.Prelude.{◌≤◌};
 
+use crate::arguments::add;
 use crate::loads::may_be_load;
 use crate::option_table::{HELD, UNBOUND};
 use dmk_reading::MAX_WORKERS;
@@ -79,7 +80,7 @@ fn left_out<'a>(word: &str, next: &str, processors: &'a str) -> (&'static str, &
 /// option.
 pub fn with_numbers(
     alloc: Global,
-    words: Vec<String>,
+    words: &[String],
     processors: &str,
 ) -> Result<Vec<String>, AllocError> {
     let mut all = Vec::with_capacity(alloc, words.len())?;
@@ -90,10 +91,15 @@ pub fn with_numbers(
             Some(next) if are_options => left_out(word.as_str(), next.as_str(), processors),
             _ => ("", ""),
         };
-        let mut whole = word.clone()?;
-        whole.push_str(sign)?;
-        whole.push_str(value)?;
-        all.push(whole)?;
+        add(&mut all, with_value(word, sign, value)?)?;
     }
     Ok(all)
+}
+
+// The word with what is to be written behind it.
+fn with_value(word: &String, sign: &str, value: &str) -> Result<String, AllocError> {
+    let mut whole = word.clone()?;
+    whole.push_str(sign)?;
+    whole.push_str(value)?;
+    Ok(whole)
 }

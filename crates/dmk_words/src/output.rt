@@ -9,7 +9,7 @@ use dmk_reading::Options;
 
 /// How what recipes write is held together: as GNU make tells it apart, or so that one recipe at a time isn't held. What is held is here
 /// held until its recipe ends.
-#[derive(Clone, Copy, Debug, PartialEq, Eq)]
+#[derive(Clone, Copy, PartialEq, Eq)]
 pub enum Output {
     /// It isn't held.
     Unheld,

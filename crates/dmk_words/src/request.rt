@@ -65,7 +65,7 @@ pub enum Request {
 }
 
 /// Why the words aren't followed, where nothing was said of it yet.
-#[derive(Clone, Copy, Debug, PartialEq, Eq, Error)]
+#[derive(Clone, Copy, Debug, Error)]
 pub enum WordsFault {
     #[error("out of memory")]
     OutOfMemory,
