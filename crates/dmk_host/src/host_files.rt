@@ -171,6 +171,14 @@ impl<'a> HostFiles<'a> {
         }
     }
 
+    /// Whether it is a makefile that the words name, of which it is told that it isn't there.
+    fn is_told_missing(&self, name: &str) -> bool {
+        match self.folders {
+            Some(folders) => self.profile.is_wide() && folders.names_makefile(name),
+            None => false,
+        }
+    }
+
     fn input_named(&self, name: &str) -> Option<&'a [u8]> {
         if name.as_bytes() == INPUT {
             self.input
@@ -209,7 +217,12 @@ impl FileCalls for HostFiles<'_> {
             Some(path) => path.as_str(),
             None => name,
         };
-        let mut status = self.looks.status(path)?;
+        let mut status = match self.looks.status(path) {
+            Err(error) if error.kind() == ErrorKind::NotFound && self.is_told_missing(name) => {
+                return Err(io::Error::new(ErrorKind::InvalidInput, "there is no such file"));
+            }
+            found => found?,
+        };
         if self.is_touched(name) {
             status.seconds = LATEST;
         }

@@ -3,30 +3,37 @@ use byte_strings::ByteStrings;
 use dmk_reading::Makefiles;
 use std::alloc::{AllocError, Global};
 
+/// The makefiles that are read where the words name none.
+const USUAL: [&[u8]; 2] = [b"makefile", b"Makefile"];
+
 /// Where a file that an include line names is looked for, if it isn't there (GNU make, "Including Other Makefiles"), in this order.
 #[derive(Drop)]
 pub struct IncludeFolders {
     folders: ByteStrings,
-    /// The makefiles that the words name, or the usual ones: they aren't looked for.
-    own: ByteStrings,
-}
-
-/// The makefiles that no include line names.
-fn own_of(alloc: Global, makefiles: &Makefiles) -> Result<ByteStrings, AllocError> {
-    let mut own = makefiles.named.copy(alloc)?;
-    if own.is_empty() {
-        own.push(b"makefile")?;
-        own.push(b"Makefile")?;
-    }
-    Ok(own)
+    /// The makefiles that the words name.
+    named: ByteStrings,
 }
 
 impl IncludeFolders {
     pub fn of(alloc: Global, makefiles: &Makefiles) -> Result<IncludeFolders, AllocError> {
         Ok(IncludeFolders {
             folders: makefiles.folders.copy(alloc)?,
-            own: own_of(alloc, makefiles)?,
+            named: makefiles.named.copy(alloc)?,
         })
+    }
+
+    /// Whether the words name this makefile.
+    pub(crate) fn names_makefile(&self, name: &str) -> bool {
+        self.named.iter().any(|named| named == name.as_bytes())
+    }
+
+    /// Whether it is a makefile that no include line names: it isn't looked for.
+    fn is_own(&self, name: &str) -> bool {
+        if self.named.is_empty() {
+            USUAL.contains(&name.as_bytes())
+        } else {
+            self.names_makefile(name)
+        }
     }
 
     pub(crate) fn are_none(&self) -> bool {
@@ -36,7 +43,7 @@ impl IncludeFolders {
     /// The paths at which a name is looked for.
     pub(crate) fn paths(&self, alloc: Global, name: &str) -> Result<Vec<String>, AllocError> {
         let mut paths = Vec::new(alloc);
-        if name.starts_with('/') || self.own.iter().any(|own| own == name.as_bytes()) {
+        if name.starts_with('/') || self.is_own(name) {
             return Ok(paths);
         }
         for folder in self.folders.iter() {
