@@ -50,6 +50,7 @@ impl ShellSource {
                 named: options.makefiles.named.copy(alloc)?,
                 folders: options.makefiles.folders.copy(alloc)?,
                 without_rules: options.makefiles.without_rules,
+                old: options.makefiles.old.copy(alloc)?,
             },
             profile: options.profile,
             definitions: copied(alloc, &options.definitions)?,

@@ -45,6 +45,9 @@ impl FileStatus {
 
 /// The calls. Links are followed.
 pub trait FileCalls {
+    /// Whether the file of this name is taken as old, whatever is known of it.
+    fn is_taken_as_old(&self, name: &str) -> bool;
+
     /// What is known of the file of this name. It opens no file.
     fn status(&mut self, name: &str) -> io::Result<FileStatus>;
 

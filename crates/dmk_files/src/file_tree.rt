@@ -77,6 +77,9 @@ fn look_by<C: FileCalls>(calls: &mut C, name: &[u8]) -> Result<Option<FileLook>,
     let Ok(name) = std::str::from_utf8(name) else {
         return Err(TreeFault::CannotLook);
     };
+    if calls.is_taken_as_old(name) {
+        return Ok(Some(FileLook::taken_as_old()));
+    }
     stamp_of(calls.status(name))
 }
 

@@ -3,6 +3,7 @@ ghost use Rattle.std.specs.Prelude.{◌≡◌, ℕ, List, None};
 ghost use Rattle.dmk_files.specs.Stamps.{known_stamp};
 
 use crate::always_run::NONE;
+use crate::assumed::Assumed;
 use crate::include_folders::IncludeFolders;
 use crate::looks::Looks;
 use crate::standard_streams::with_patience;
@@ -31,8 +32,8 @@ pub struct HostFiles<'a> {
     profile: Profile,
     /// Where makefiles are looked for that aren't there.
     folders: Option<&'a IncludeFolders>,
-    /// The files that count as changed later than all others.
-    touched: Option<&'a ByteStrings>,
+    /// What counts of files though it isn't so.
+    assumed: Option<&'a Assumed>,
 }
 
 /// Reads standard input to its end.
@@ -61,22 +62,21 @@ fn read_whole<R: Read>(alloc: Global, file: &mut R, length: u64) -> io::Result<V
 #[derive(Drop)]
 pub struct HostTrees {
     rt: HostRuntime,
-    /// The files that count as changed later than all others.
-    touched: ByteStrings,
+    assumed: Assumed,
 }
 
 impl HostTrees {
     /// The files as these options say.
     pub fn of(rt: HostRuntime, options: &Options) -> Result<HostTrees, AllocError> {
-        let touched = options.touched.copy(rt.alloc())?;
-        Ok(HostTrees { rt, touched })
+        let assumed = Assumed::of(rt.alloc(), options)?;
+        Ok(HostTrees { rt, assumed })
     }
 
     /// The files as they are.
     pub fn plain(rt: HostRuntime) -> HostTrees {
         HostTrees {
             rt,
-            touched: ByteStrings::empty(rt.alloc()),
+            assumed: Assumed::nothing(rt.alloc()),
         }
     }
 
@@ -94,7 +94,7 @@ impl HostTrees {
                 env: &[],
                 profile: Profile::Strict,
                 folders: None,
-                touched: Some(&self.touched),
+                assumed: Some(&self.assumed),
             },
         )
     }
@@ -119,7 +119,7 @@ impl<'a> HostFiles<'a> {
                 env,
                 profile,
                 folders: Some(folders),
-                touched: None,
+                assumed: None,
             },
         )
     }
@@ -165,8 +165,8 @@ impl<'a> HostFiles<'a> {
     }
 
     fn is_touched(&self, name: &str) -> bool {
-        match self.touched {
-            Some(touched) => touched.iter().any(|it| it == name.as_bytes()),
+        match self.assumed {
+            Some(assumed) => assumed.is_touched(name),
             None => false,
         }
     }
@@ -203,6 +203,13 @@ const LATEST: i64 = i64::MAX;
 const MARK: &[u8] = b"\xEF\xBB\xBF";
 
 impl FileCalls for HostFiles<'_> {
+    fn is_taken_as_old(&self, name: &str) -> bool {
+        match self.assumed {
+            Some(assumed) => assumed.is_old(name),
+            None => false,
+        }
+    }
+
     fn status(&mut self, name: &str) -> io::Result<FileStatus> {
         if let Some(input) = self.input_named(name) {
             return Ok(FileStatus {

@@ -2,6 +2,7 @@
 #![tactic(auto)]
 
 mod always_run;
+mod assumed;
 mod base;
 mod child_signal;
 mod definitions_told;
@@ -22,6 +23,7 @@ mod unfilled;
 mod word_notes;
 
 pub use always_run::{AlwaysLines, LineSettings, beside_recipes};
+pub use assumed::Assumed;
 pub use base::base_asked;
 pub use child_signal::run_anew;
 pub use definitions_told::tell_definitions;

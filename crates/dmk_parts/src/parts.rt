@@ -64,6 +64,7 @@ pub fn part_of(
 {
     let named = options.makefiles.named.copy(alloc)?;
     let folders = options.makefiles.folders.copy(alloc)?;
+    let old = options.makefiles.old.copy(alloc)?;
     let state = String::from_str(alloc, options.state.as_str())?;
     let definitions = copied(alloc, &options.definitions)?;
     let targets = targets.copy(alloc)?;
@@ -73,6 +74,7 @@ pub fn part_of(
             named,
             folders,
             without_rules: options.makefiles.without_rules,
+            old,
         },
         profile: options.profile,
         state,

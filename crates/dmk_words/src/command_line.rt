@@ -10,7 +10,7 @@ use crate::flags::taken_words;
 use crate::job_words::with_numbers;
 use crate::loads::load_of;
 use crate::mistake::write_mistake;
-use crate::option_table::{INCLUDE, NO_MACROS, TOUCHED, UNDEFINED};
+use crate::option_table::{INCLUDE, NO_MACROS, OLD, TOUCHED, UNDEFINED};
 use crate::program::started_by;
 use crate::request::{Asked, INPUT, Later, Request, WordsFault};
 use bd_lists::Variable;
@@ -342,16 +342,21 @@ fn makefiles_of(alloc: Global, found: &ArgMatches<'_>) -> Result<Makefiles, Allo
         named,
         folders,
         without_rules: found.contains_id("no_rules") || found.contains_id(NO_MACROS),
+        old: files_of(alloc, found, OLD)?,
     })
 }
 
-/// The files that count as changed just now, by their names without `./` in front.
-fn touched_of(alloc: Global, found: &ArgMatches<'_>) -> Result<ByteStrings, AllocError> {
-    let mut touched = ByteStrings::empty(alloc);
-    for name in found.get_strs(TOUCHED).unwrap_or(&[]) {
-        touched.push(name_in(Profile::Posix, name.as_bytes()))?;
+/// The files that an option of this name names, without `./` in front.
+fn files_of(
+    alloc: Global,
+    found: &ArgMatches<'_>,
+    option: &str,
+) -> Result<ByteStrings, AllocError> {
+    let mut files = ByteStrings::empty(alloc);
+    for name in found.get_strs(option).unwrap_or(&[]) {
+        files.push(name_in(Profile::Posix, name.as_bytes()))?;
     }
-    Ok(touched)
+    Ok(files)
 }
 
 /// The language of the makefile.
@@ -386,7 +391,7 @@ fn named_workers(found: &ArgMatches<'_>) -> Option<u16> {
 /// The options that were found, with so many workers, without the words.
 fn options_of(alloc: Global, found: &ArgMatches<'_>, workers: u16) -> Result<Options, AllocError> {
     let makefiles = makefiles_of(alloc, found)?;
-    let touched = touched_of(alloc, found)?;
+    let touched = files_of(alloc, found, TOUCHED)?;
     let state = String::from_str(alloc, found.get_str("state").unwrap_or(""))?;
     Ok(Options {
         makefiles,

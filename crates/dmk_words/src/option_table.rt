@@ -70,6 +70,9 @@ pub const UNDEFINED: &str = "--warn-undefined-variables";
 /// How the option is looked for by which files count as changed.
 pub const TOUCHED: &str = "-W (--what-if)";
 
+/// How the option is looked for by which files are taken as old.
+pub const OLD: &str = "-o (--old-file)";
+
 static OPTIONS: [Row; 34] = [
     Row {
         id: "folders",
@@ -179,6 +182,17 @@ static OPTIONS: [Row; 34] = [
             RUNNING,
             "With --posix, make what is to be made if FILE had\nbeen changed just now, though it stays as it is;\nall count",
             "the times of files count; touch the file",
+        ),
+    },
+    Row {
+        id: OLD,
+        letter: Some('o'),
+        words: &["old-file", "assume-old"],
+        takes: Takes::Values("FILE"),
+        role: Role::Wide(
+            RUNNING,
+            "With --posix, leave FILE as it is, and make nothing\non account of it; all count",
+            "what is out of date is made; name the targets that are wanted",
         ),
     },
     Row {
@@ -350,13 +364,6 @@ static OPTIONS: [Row; 34] = [
             "With --posix, begin no further recipe beside others\nwhile the load is N or above; without N\nwhatever it is",
             "how busy the machine is isn't looked at; -j N bounds how many recipes run",
         ),
-    },
-    Row {
-        id: "-o (--old-file)",
-        letter: Some('o'),
-        words: &["old-file", "assume-old"],
-        takes: Takes::Values("FILE"),
-        role: Role::Refused("what is out of date is made; name the targets that are wanted"),
     },
     Row {
         id: "-L (--check-symlink-times)",
