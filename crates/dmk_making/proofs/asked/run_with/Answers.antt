@@ -1,7 +1,7 @@
 use Rattle.std.proofs.Common.{codes}
 use Rattle.dmk_reading.specs.Keeping.{value_in}
 use Rattle.dmk_asking.proofs.ModeLemmas.{runs, looks}
-use Rattle.dmk.proofs.run_with.Goals as goal
+use Rattle.dmk_making.proofs.asked.run_with.Goals as goal
 
 pub make-requires-after_bounds : goal.make-requires-after_bounds
 make-requires-after_bounds g c =

@@ -4,26 +4,23 @@ ghost use Rattle.dmk_reading.specs.Keeping.{value_in};
 ghost use Rattle.dmk_reading.specs.Asked.{AsksToRun};
 
 use crate::duty::duty_of;
-use crate::state_lock::{LockPlace, StateLock};
+use crate::outfit::{HostPrinter, Lent, Outfit, base_told, outfit_of};
+use crate::state_lock::StateLock;
 use bd_flusher::Receipt;
 use bd_lists::{Exec, Variable};
 use dmk_files::{FileTexts, FileTree};
 use dmk_host::{
-    HostFiles, HostTrees, IncludeFolders, Patient, PoolPath, TrustedPlace, base_asked,
-    beside_recipes, buffered, draws_status, locks_above, needs_usual_makefile, print_gnu_makefile,
-    print_notes, print_reasons, prints_to_log, reports_path, streams_are_one, tell_definitions,
-    with_patience,
+    HostFiles, HostTrees, Patient, TrustedPlace, needs_usual_makefile, print_gnu_makefile,
+    print_notes, print_reasons,
 };
-use dmk_locks::wait_for_janitors;
-use dmk_printing::{Front, Lending, Printer, followed};
-use dmk_reading::{Options, value_of};
+use dmk_printing::{Lending, Printer, followed};
+use dmk_reading::Options;
 use dmk_run::{Means, build_targets};
-use dmk_status::{Shown, Terminal};
 use dmk_store::{Looks, Machine};
 use dmk_trust::trust_files;
-use dmk_words::{Later, handed_on};
+use dmk_words::Later;
 use jb_flags::{Handed, Handing};
-use jb_host::{BeforeLines, Hears, HostPlace, Sharing, Shell, Stops, Writes};
+use jb_host::{BeforeLines, Hears, HostPlace, Sharing, Shell, Stops};
 use jb_janitor::Janitor;
 use jb_recipe::Place;
 use jb_slots::{FifoBank, FifoBanks};
@@ -34,8 +31,6 @@ use std::alloc::{AllocError, Global};
 use std::io::{BufWriter, Stderr, Stdout};
 use std::sync::Wait;
 use std::thread::Threads;
-
-type HostPrinter<'a, R> = Printer<'a, R, BufWriter<Patient<Stdout>>, BufWriter<Patient<Stderr>>>;
 
 /// This machine, by the types of its parts. No value is made of it.
 struct HostMachine<'r, 'f, 'l, R: Wait> {
@@ -66,20 +61,6 @@ impl<'r, 'f, 'l, R: Threads + Wait + Sync> Machine for HostMachine<'r, 'f, 'l, R
     type Banks = FifoBanks;
 }
 
-/// What a run has of this machine, found before a makefile is made of anything.
-#[derive(Drop)]
-struct Outfit<'a, R: Wait> {
-    folder: SystemFolder,
-    reports: String,
-    pool: PoolPath,
-    handed: Option<Handed>,
-    lock: LockPlace,
-    printer: HostPrinter<'a, R>,
-    writes: Writes,
-    /// Targets are taken as they are before the run, where nothing is recorded of any.
-    trusts_files: bool,
-}
-
 /// The files of this machine, looked at anew.
 #[derive(Drop)]
 struct HostLooks<'a> {
@@ -90,95 +71,6 @@ impl<'a> Looks<FileTree<HostFiles<'a>>> for HostLooks<'a> {
     fn anew(&self) -> FileTree<HostFiles<'a>> {
         self.trees.tree()
     }
-}
-
-/// Where what recipes write goes.
-fn writes_of(options: &Options, later: Later) -> Writes {
-    if later.writes_through(options) {
-        Writes::Through
-    } else if later.writes_at_front(options) {
-        Writes::Heard
-    } else {
-        Writes::Apart
-    }
-}
-
-/// Where a run shows how far it is: in a status line, unless recipes write on the standard streams too, and in lines of a log that was asked
-/// for.
-fn shown_of(
-    host: HostRuntime,
-    environment: &[Variable],
-    is_silent: bool,
-    writes: Writes,
-    prints_ends: bool,
-) -> Shown {
-    let draws = !is_silent && writes != Writes::Through && draws_status(host, environment);
-    Shown {
-        terminal: draws.then_some(Terminal { host }),
-        prints_ends: prints_ends && prints_to_log(host),
-    }
-}
-
-/// A printer on the standard streams.
-fn host_printer<'a, R: Wait>(
-    rt: &'a R,
-    host: HostRuntime,
-    turns: &'a Turns,
-    writes: Writes,
-    shown: Shown,
-) -> Result<HostPrinter<'a, R>, AllocError> {
-    let alloc = host.alloc();
-    let front = match writes {
-        Writes::Heard => Some(Front::new(host, alloc, streams_are_one(host))),
-        _ => None,
-    };
-    Ok(Printer::new(
-        rt,
-        alloc,
-        turns,
-        buffered(alloc, with_patience(host, host.stdout()))?,
-        buffered(alloc, with_patience(host, host.stderr()))?,
-        shown,
-        front,
-    ))
-}
-
-fn outfit_of<'a, R: Wait>(
-    rt: &'a R,
-    host: HostRuntime,
-    turns: &'a Turns,
-    options: &Options,
-    later: Later,
-    environment: &[Variable],
-) -> Result<Outfit<'a, R>, AllocError> {
-    let alloc = host.alloc();
-    let state = options.state.as_str();
-    let flags = value_of(environment, b"MAKEFLAGS");
-    let before = later.definitions_before(options.profile, environment);
-    let handed = handed_on(alloc, options, later, before, flags)?;
-    let lock = LockPlace::of(host, state, locks_above(environment))?;
-    let folder = SystemFolder::new(host, alloc, state)?;
-    let reports = reports_path(host, options.profile, state)?;
-    let pool = PoolPath::new(host, state, flags, usize::from(options.workers))?;
-    let writes = writes_of(options, later);
-    let shown = shown_of(
-        host,
-        environment,
-        options.is_silent,
-        writes,
-        later.prints_ends,
-    );
-    let printer = host_printer(rt, host, turns, writes, shown)?;
-    Ok(Outfit {
-        folder,
-        reports,
-        pool,
-        handed,
-        lock,
-        printer,
-        writes,
-        trusts_files: later.trusts_files,
-    })
 }
 
 /// Makes the targets, and answers the status. The printer's streams are lent to lines that write on them, so that nothing is
@@ -425,8 +317,89 @@ fn make_with<'a, 'f, R: Threads + Wait + Sync>(
     status
 }
 
+/// Makes the targets with this outfit, once it is known what the janitor has to know.
+fn make_outfitted<'f, R: Threads + Wait + Sync>(
+    rt: &R,
+    host: HostRuntime,
+    options: Options,
+    trees: &'f HostTrees,
+    environment: &[Variable],
+    makefiles: &mut FileTexts<HostFiles<'f>>,
+    outfit: Outfit<'_, R>,
+    turns: &Turns,
+) -> Result<u8, AllocError>
+    requires { AsksToRun options (value_in environment.now (codes "MAKEFLAGS")) }
+{
+    let duty = match duty_of(host, &options, environment, outfit.printer.draws()) {
+        Ok(duty) => duty,
+        Err(error) => {
+            drop(outfit);
+            drop(options);
+            return Err(error);
+        }
+    };
+    let before = BeforeLines::new();
+    let stops = Stops::new(rt, host);
+    let janitor = Janitor::new(rt, host, duty);
+    Ok(make_with(
+        rt,
+        host,
+        options,
+        trees,
+        environment,
+        makefiles,
+        outfit,
+        &before,
+        &stops,
+        turns,
+        &janitor,
+    ))
+}
+
+/// Makes the targets, behind what -p prints.
+fn make_read<'f, R: Threads + Wait + Sync>(
+    rt: &R,
+    host: HostRuntime,
+    options: Options,
+    later: Later,
+    trees: &'f HostTrees,
+    environment: &[Variable],
+    makefiles: &mut FileTexts<HostFiles<'f>>,
+) -> Result<u8, AllocError>
+    requires { AsksToRun options (value_in environment.now (codes "MAKEFLAGS")) }
+{
+    let base = match base_told(host, &options, later, environment, makefiles) {
+        Ok(base) => base,
+        Err(error) => {
+            drop(options);
+            return Err(error);
+        }
+    };
+    let turns = Turns::new(host, host.alloc(), later.most_load);
+    let outfit = match outfit_of(rt, host, &turns, &options, later, environment) {
+        Ok(outfit) => outfit,
+        Err(error) => {
+            drop(base);
+            drop(options);
+            return Err(error);
+        }
+    };
+    outfit.printer.text(&base);
+    drop(base);
+    make_outfitted(
+        rt,
+        host,
+        options,
+        trees,
+        environment,
+        makefiles,
+        outfit,
+        &turns,
+    )
+}
+
 /// Runs recipes, and answers the status.
-pub fn make<R: Threads + Wait + Sync>(
+pub(crate) fn make<R: Threads + Wait + Sync>(
     rt: &R,
     host: HostRuntime,
     options: Options,
@@ -436,33 +409,24 @@ pub fn make<R: Threads + Wait + Sync>(
 ) -> Result<u8, AllocError>
     requires { AsksToRun options (value_in environment.now (codes "MAKEFLAGS")) }
 {
-    if options.profile.is_wide() {
-        wait_for_janitors(host, options.state.as_str())?;
-    }
-    let env = beside_recipes(host, &options, later, environment)?;
-    let folders = IncludeFolders::of(host.alloc(), &options.makefiles)?;
-    let trees = HostTrees::of(host, &options)?;
-    let mut makefiles = HostFiles::texts(host, options.profile, input, &env, &folders);
-    tell_definitions(host, &options, later, environment, &mut makefiles)?;
-    let base = base_asked(host, &options, environment, &mut makefiles)?;
-    let turns = Turns::new(host, host.alloc(), later.most_load);
-    let outfit = outfit_of(rt, host, &turns, &options, later, environment)?;
-    outfit.printer.text(&base);
-    let before = BeforeLines::new();
-    let stops = Stops::new(rt, host);
-    let duty = duty_of(host, &options, environment, outfit.printer.draws())?;
-    let janitor = Janitor::new(rt, host, duty);
-    Ok(make_with(
+    let lent = match Lent::of(host, &options, later, environment) {
+        Ok(lent) => lent,
+        Err(error) => {
+            drop(options);
+            return Err(error);
+        }
+    };
+    let mut makefiles = HostFiles::texts(host, options.profile, input, &lent.env, &lent.folders);
+    let made = make_read(
         rt,
         host,
         options,
-        &trees,
+        later,
+        &lent.trees,
         environment,
         &mut makefiles,
-        outfit,
-        &before,
-        &stops,
-        &turns,
-        &janitor,
-    ))
+    );
+    drop(makefiles);
+    drop(lent);
+    made
 }
