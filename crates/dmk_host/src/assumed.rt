@@ -5,7 +5,7 @@ use std::alloc::{AllocError, Global};
 
 /// Files by their names without `./` in front. One that is both counts as changed.
 #[derive(Drop)]
-pub struct Assumed {
+pub(crate) struct Assumed {
     /// Those that count as changed later than all others.
     touched: ByteStrings,
     /// Those that are taken as old, whether they are there or not.
@@ -17,14 +17,14 @@ fn has(names: &ByteStrings, name: &str) -> bool {
 }
 
 impl Assumed {
-    pub fn of(alloc: Global, options: &Options) -> Result<Assumed, AllocError> {
+    pub(crate) fn of(alloc: Global, options: &Options) -> Result<Assumed, AllocError> {
         Ok(Assumed {
             touched: options.touched.copy(alloc)?,
             old: options.makefiles.old.copy(alloc)?,
         })
     }
 
-    pub fn nothing(alloc: Global) -> Assumed {
+    pub(crate) fn nothing(alloc: Global) -> Assumed {
         Assumed {
             touched: ByteStrings::empty(alloc),
             old: ByteStrings::empty(alloc),

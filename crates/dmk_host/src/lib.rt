@@ -23,7 +23,6 @@ mod unfilled;
 mod word_notes;
 
 pub use always_run::{AlwaysLines, LineSettings, beside_recipes};
-pub use assumed::Assumed;
 pub use base::base_asked;
 pub use child_signal::run_anew;
 pub use definitions_told::tell_definitions;
