@@ -93,7 +93,8 @@ Description: parallel make that never takes a half-made target for a finished on
  made again where its recipe has changed, and where a run was killed or the
  power was cut in the midst of it, whatever the times of files say.
  .
- dmk_state lists what a state file remembers, and dmk_tool answers questions to it.
+ dmk_state lists what a state file remembers, and dmk_tool answers questions
+ to it.
 END
 (cd "$root" && find usr -type f -print0 | sort -z | xargs -0 md5sum) >"$root/DEBIAN/md5sums"
 package=$to/dmk_${version}_$architecture.deb
