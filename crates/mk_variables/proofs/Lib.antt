@@ -1,0 +1,3 @@
+mod ExportLemmas
+mod LawLemmas
+mod TableLemmas
