@@ -1,5 +1,6 @@
 mod DefinitionLemmas
 mod LineLemmas
 mod NameLemmas
+mod ReadingLemmas
 mod SignLemmas
 mod StepLemmas

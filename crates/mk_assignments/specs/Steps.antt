@@ -1,9 +1,9 @@
 -- What is read of a line, word by word, and what the code has of it.
-use Rattle.std.specs.Prelude.{ℕ, List, Option, Some, None, codes, bytes_eq, if◌then◌else◌}
-use Rattle.byte_strings.specs.Blanks.{trimmed_end}
+use Rattle.std.specs.Prelude.{ℕ, zero, suc, List, length, Option, Some, None, codes, bytes_eq, if◌then◌else◌}
+use Rattle.byte_strings.specs.Blanks.{trimmed_start, trimmed_end}
 use Rattle.mk_conditionals.specs.Cut.{front_word, behind_word}
 use Rattle.mk_assignments.specs.Reading.{Defined, definition}
-use Rattle.mk_assignments.specs.Line.{Opened, opened, Said, defines, begins, undefines, exports, unexports}
+use Rattle.mk_assignments.specs.Line.{no_modifiers, and_modifier, Opened, opened, Said, defines, begins, undefines, exports, unexports}
 use Rattle.mk_assignments.specs.declared.definition.Definition.{Definition}
 use Rattle.mk_assignments.specs.declared.statement.DefineLine.{DefineLine}
 use Rattle.mk_assignments.specs.declared.statement.Modifier.{Modifier}
@@ -48,6 +48,24 @@ unfoldable pub listed_at : (text : List ℕ) → Option Said
 listed_at text =
     if bytes_eq (front_word text) (codes "export") then Some (exports (behind_word text))
     else (if bytes_eq (front_word text) (codes "unexport") then Some (unexports (behind_word text)) else None)
+
+abbrev pub behind_modifier : Option (Modifier × List ℕ) → (further : Modifier → List ℕ → Option Said) → (here : Option Said) → Option Said
+behind_modifier None further here = here
+behind_modifier (Some found) further here = further found.0 found.1
+
+-- what stands behind the modifiers, of which so many are looked at, at most
+abbrev pub assigned_from : (most : ℕ) → Modifiers → (text : List ℕ) → Option Said
+assigned_from zero modifiers text = assigned_at modifiers text
+assigned_from (suc most) modifiers text =
+    behind_modifier (modifier_at text) (λ word rest. assigned_from most (and_modifier word modifiers) rest) (assigned_at modifiers text)
+
+abbrev pub or_listed : Option Said → (text : List ℕ) → Option Said
+or_listed (Some said) text = Some said
+or_listed None text = listed_at text
+
+-- what a line says; it has no more modifiers than bytes
+unfoldable pub said : (text : List ℕ) → Option Said
+said text = or_listed (assigned_from (length (trimmed_start text)) no_modifiers (trimmed_start text)) (trimmed_start text)
 
 abbrev pub defined_by : Definition → Defined
 defined_by d = record { name = d.name.now; sign = d.sign; value = d.value.now }

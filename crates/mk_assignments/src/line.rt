@@ -3,7 +3,7 @@ ghost use Rattle.std.specs.Prelude.{◌≡◌, ◌<◌, length, None, Some, Matc
 ghost use Rattle.mk_conditionals.specs.Cut.{front_word, behind_word};
 ghost use Rattle.mk_assignments.specs.Reading.{definition};
 ghost use Rattle.mk_assignments.specs.Line.{no_modifiers, opened, Assigns, Says};
-ghost use Rattle.mk_assignments.specs.Steps.{modifier_named, modifier_at, word_assigns, assigned_at, listed_at, opened_by, said_by};
+ghost use Rattle.mk_assignments.specs.Steps.{modifier_named, modifier_at, word_assigns, assigned_at, listed_at, opened_by, said, said_by};
 
 use crate::definition::definition_of;
 use crate::sign::Sign;
@@ -122,7 +122,8 @@ fn listed_at(text: &[u8]) -> Option<Statement<'_>>
 /// What a logical line says of variables, if it says anything. Its comment is taken off, and its lines are joined; blanks may
 /// stand in front. A word that is defined, as in `export = x`, says nothing else.
 pub fn statement_of(text: &[u8]) -> Option<Statement<'_>>
-    ensures { Says text.now (option_map said_by result) }
+    ensures meaning { Says text.now (option_map said_by result) }
+    ensures value { option_map said_by result ≡ said text.now }
 {
     let line = trim_start(text);
     match assigned(line) {
