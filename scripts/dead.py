@@ -29,13 +29,14 @@ WAITING_EXPORTS = {
     "jb_slots": {"Fifo", "dry"},
     # What a target alone has, behind its colon, is read by it.
     "mk_assignments": {"definition_of"},
-    "mk_conditionals": {"BodyLine", "DirectiveLine", "Reading", "body_line"},
+    "mk_conditionals": {"Reading"},
     "mk_eval": {"MAX_INCLUDE_DEPTH"},
     "mk_functions": {"MAX_CALLS", "MAX_PIECES", "MAX_VALUE"},
     "mk_graph": {"distinct_names", "whole_plan"},
     "mk_macros": {"FUNCTIONS"},
     "mk_recipe": {"LineStatus", "Look", "Mark", "Prerequisite", "Told", "Verdict", "outcome"},
     "mk_seen": {"SeenFiles"},
+    "mk_statements": {"Statement", "next_statement"},
     # Types of fields that others read.
     "mk_rule_lines": {"PoolCause", "PoolFault"},
     "mk_settings": {"Pools"},
