@@ -42,6 +42,7 @@ if [ "$failed" -eq 0 ]; then
     run_part bash scripts/word_rows.sh
     run_part python3 scripts/random_words.py
     run_part python3 scripts/random_expansions.py
+    run_part python3 scripts/random_tables.py
     run_part python3 scripts/random_depfiles.py
     run_part python3 scripts/random_makefiles.py
     run_part python3 scripts/random_wide_makefiles.py

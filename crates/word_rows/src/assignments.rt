@@ -15,7 +15,7 @@ fn text_of(sign: Sign) -> &'static str {
     }
 }
 
-fn say_if(out: &mut String, is_so: bool, word: &str) -> Result<(), AllocError> {
+pub(crate) fn say_if(out: &mut String, is_so: bool, word: &str) -> Result<(), AllocError> {
     if is_so { say_word(out, word) } else { Ok(()) }
 }
 
@@ -36,7 +36,7 @@ fn say_definition(
     say_text(out, definition.value)
 }
 
-fn say_define(
+pub(crate) fn say_define(
     out: &mut String,
     modifiers: Modifiers,
     line: DefineLine<'_>,
@@ -52,12 +52,12 @@ fn say_undefine(out: &mut String, modifiers: Modifiers, name: &[u8]) -> Result<(
     say_names(out, "undefine", name)
 }
 
-fn say_names(out: &mut String, word: &str, names: &[u8]) -> Result<(), AllocError> {
+pub(crate) fn say_names(out: &mut String, word: &str, names: &[u8]) -> Result<(), AllocError> {
     say_word(out, word)?;
     say_text(out, names)
 }
 
-fn say(out: &mut String, statement: Statement<'_>) -> Result<(), AllocError> {
+pub(crate) fn say_variables(out: &mut String, statement: Statement<'_>) -> Result<(), AllocError> {
     match statement {
         Statement::Defines(modifiers, definition) => say_definition(out, modifiers, definition),
         Statement::Begins(modifiers, line) => say_define(out, modifiers, line),
@@ -70,7 +70,7 @@ fn say(out: &mut String, statement: Statement<'_>) -> Result<(), AllocError> {
 /// What a line says of variables, or `none`.
 pub(crate) fn say_statement(text: &[u8], out: &mut String) -> Answered {
     let said = match statement_of(text) {
-        Some(statement) => say(out, statement),
+        Some(statement) => say_variables(out, statement),
         None => say_word(out, "none"),
     };
     Ok(said?)

@@ -1,17 +1,18 @@
 //! What texts come to, with the variables and the world outside of a row.
 use crate::arguments::{add, argument, number_fault};
 use crate::outside::{Answer, Told, question_of};
-use crate::variables::{Defined, Variables, flavor_of, origin_of};
+use crate::variables::{flavor_of, origin_of};
 use mk_functions::{Fault, Origin, Stop, expand};
 use mk_pieces::{Function, Question};
+use mk_variables::Table;
 use row_files::{Answered, RowFault, Words, bytes};
 use std::alloc::{AllocError, Global};
 
 /// What a row sets up for its expansions.
 #[derive(Drop)]
 pub(crate) struct Setting {
-    variables: Variables,
-    outside: Told,
+    pub(crate) table: Table,
+    pub(crate) outside: Told,
 }
 
 /// What stands behind the first word of a line.
@@ -25,25 +26,6 @@ struct Line<'a> {
 fn line_of<'a>(words: &mut Words<'a>) -> Line<'a> {
     let (name, sign, text) = (words.next(), words.next(), words.next());
     Line { name, sign, text }
-}
-
-/// The variable of a line, behind its name.
-fn definition(
-    alloc: Global,
-    origin: Origin,
-    line: Line<'_>,
-) -> Result<(Vec<u8>, Defined), RowFault> {
-    let flavor = flavor_of(line.sign).ok_or(RowFault::Word)?;
-    let name = argument(alloc, line.name)?;
-    let text = argument(alloc, line.text)?;
-    Ok((
-        name,
-        Defined {
-            text,
-            flavor,
-            origin,
-        },
-    ))
 }
 
 /// The answer of a line.
@@ -63,9 +45,7 @@ fn answer(alloc: Global, question: Question, line: Line<'_>) -> Result<Answer, R
 impl Setting {
     pub(crate) fn new(alloc: Global) -> Setting {
         Setting {
-            variables: Variables {
-                entries: Vec::new(alloc),
-            },
+            table: Table::new(alloc, false),
             outside: Told {
                 answers: Vec::new(alloc),
                 said: String::new(alloc),
@@ -73,8 +53,23 @@ impl Setting {
         }
     }
 
-    /// Takes a line: ORIGIN NAME = TEXT, with `:=` for a simple variable, or QUESTION TEXT = ANSWER. Whether it is one.
+    fn define(&mut self, alloc: Global, origin: Origin, line: Line<'_>) -> Answered {
+        let flavor = flavor_of(line.sign).ok_or(RowFault::Word)?;
+        let name = argument(alloc, line.name)?;
+        let text = argument(alloc, line.text)?;
+        Ok(
+            self.table
+                .put(alloc, origin, flavor, name.as_slice(), text.as_slice())?,
+        )
+    }
+
+    /// Takes a line: ORIGIN NAME = TEXT, with `:=` for a simple variable, QUESTION TEXT = ANSWER, or `environment-first`, in front
+    /// of all others. Whether it is one.
     pub(crate) fn takes(&mut self, alloc: Global, line: &str) -> Result<bool, RowFault> {
+        if line == "environment-first" {
+            self.table = Table::new(alloc, true);
+            return Ok(true);
+        }
         let mut words = Words { rest: line };
         let word = words.next();
         let line = line_of(&mut words);
@@ -82,10 +77,7 @@ impl Setting {
             return Ok(false);
         }
         if let Some(origin) = origin_of(word) {
-            add(
-                &mut self.variables.entries,
-                definition(alloc, origin, line)?,
-            )?;
+            self.define(alloc, origin, line)?;
             return Ok(true);
         }
         let Some(question) = question_of(word) else {
@@ -98,7 +90,7 @@ impl Setting {
     /// What was asked and said, and what a text comes to, or why it has no value.
     pub(crate) fn say_value(&mut self, alloc: Global, text: &[u8], out: &mut String) -> Answered {
         self.outside.said.clear();
-        let outcome = expand(alloc, &self.variables, &mut self.outside, text);
+        let outcome = expand(alloc, &self.table, &mut self.outside, text);
         say_outcome(&mut self.outside.said, outcome)?;
         Ok(out.push_str(self.outside.said.as_str())?)
     }
@@ -107,9 +99,16 @@ impl Setting {
 fn say_outcome(out: &mut String, outcome: Result<Vec<u8>, Stop>) -> Result<(), AllocError> {
     match outcome {
         Ok(value) => bytes::say_all(out, value.as_slice()),
-        Err(Stop::OutOfMemory) => Err(AllocError),
-        Err(Stop::TakesTooLong) => out.push_str("takes-too-long"),
-        Err(Stop::Fault(fault)) => say_fault(out, fault),
+        Err(stop) => say_stop(out, stop),
+    }
+}
+
+/// Why a text has no value.
+pub(crate) fn say_stop(out: &mut String, stop: Stop) -> Result<(), AllocError> {
+    match stop {
+        Stop::OutOfMemory => Err(AllocError),
+        Stop::TakesTooLong => out.push_str("takes-too-long"),
+        Stop::Fault(fault) => say_fault(out, fault),
     }
 }
 

@@ -4,6 +4,7 @@ use crate::assignments::say_statement;
 use crate::conditionals::say_taken;
 use crate::depfiles::{say_names, say_place};
 use crate::expansions::Setting;
+use crate::statements::say_statements;
 use mk_words::{
     NumberFault, add_prefix, add_suffix, basename, dir, filter, filter_out, find_string,
     first_word, join, last_word, notdir, patsubst, sort, strip, subst, suffix, word, word_count,
@@ -128,6 +129,10 @@ impl Functions {
             "expand" => self.setting.say_value(alloc, text, out),
             "lines" => say_taken(alloc, text, out),
             "variables" => say_statement(text, out),
+            "statements" => say_statements(alloc, text, out),
+            "take" => self.setting.say_taken(alloc, text, b"", out),
+            "argument" => self.setting.say_given(alloc, text, out),
+            "environment" => self.setting.say_environment(alloc, text, out),
             "depfile" => say_names(alloc, text, out),
             _ => of_one(alloc, name, text, out),
         }
@@ -142,6 +147,7 @@ impl Functions {
     ) -> Answered {
         match given {
             [text] => self.of_text(alloc, name, text, out),
+            [first, text] if name == "take" => self.setting.say_taken(alloc, first, text, out),
             [first, text] => of_two(alloc, name, first, text, out),
             [first, second, text] => of_three(alloc, name, first, second, text, out),
             _ => Err(RowFault::Word),
@@ -153,6 +159,9 @@ impl World for Functions {
     // What is lent to an answer is let go by one call.
     fn call(&mut self, alloc: Global, words: &mut Words<'_>, out: &mut String) -> Answered {
         let name = words.next();
+        if name == "export-all" && words.rest.is_empty() {
+            return self.setting.say_all_exported(out);
+        }
         let given = arguments(alloc, words.rest)?;
         let answered = self.answer(alloc, name, &given, out);
         drop(given);

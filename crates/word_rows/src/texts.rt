@@ -25,3 +25,9 @@ pub(crate) fn say_place(out: &mut String, what: &str, number: usize) -> Result<(
     part(out)?;
     write!(out, "{what}:{number}")
 }
+
+/// Says the number of the line whose answer follows.
+pub(crate) fn say_number(out: &mut String, number: usize) -> Result<(), AllocError> {
+    part(out)?;
+    write!(out, "{number}:")
+}

@@ -1,2 +1,0 @@
--- Variables: what a name stands for in a row.
-pub mod Variables
