@@ -9,7 +9,6 @@ use Rattle.mk_assignments.specs.declared.statement.Modifiers.{Modifiers}
 use Rattle.mk_functions.specs.declared.variable.Flavor.{Flavor}
 use Rattle.mk_functions.specs.declared.variable.Flavor.TheVariants.{Recursive, Simple}
 use Rattle.mk_functions.specs.declared.variable.Origin.{Origin}
-use Rattle.mk_functions.specs.declared.variable.Origin.TheVariants.{Environment}
 use Rattle.mk_functions.specs.Variables.{Variable, Variables}
 use Rattle.mk_functions.specs.Outcome.{Outcome, gives, fails}
 use Rattle.mk_functions.specs.Values.{Answers}
@@ -19,7 +18,7 @@ use Rattle.mk_variables.specs.declared.entry.Sharing.TheVariants.{Unsaid, Export
 use Rattle.mk_variables.specs.declared.value.Taken.{Taken}
 use Rattle.mk_variables.specs.declared.value.Taken.TheVariants.{AsWritten, Expanded, Output}
 use Rattle.mk_variables.specs.Table.{Entry}
-use Rattle.mk_variables.specs.Ranks.{met, is_passed_over}
+use Rattle.mk_variables.specs.Ranks.{met, is_of_environment, is_passed_over}
 
 abbrev pub taken_into : Flavor → Taken
 taken_into Recursive = AsWritten
@@ -128,11 +127,11 @@ undefined is_first origin (Some e) =
     unless_stronger (is_passed_over origin (met is_first e.variable.origin)) (met_entry is_first e)
 
 -- what came with the environment goes on to recipes (GNU make manual, "Communicating Variables to a Sub-make")
-abbrev pub shared_from : Origin → Sharing → Sharing
-shared_from Environment sharing = Exported
-shared_from origin sharing = sharing
+abbrev pub shared_from : (is_of_environment : Bool) → Sharing → Sharing
+shared_from true sharing = Exported
+shared_from false sharing = sharing
 
 -- what a name is that the tool itself defines: as what is built in, or what the environment has
 abbrev pub put_at : Variable → (there : Option Entry) → Entry
-put_at variable None = record (new_entry variable) { sharing = shared_from variable.origin Unsaid }
-put_at variable (Some e) = record { variable = variable; sharing = shared_from variable.origin e.sharing; is_private = e.is_private }
+put_at variable None = record (new_entry variable) { sharing = shared_from (is_of_environment variable.origin) Unsaid }
+put_at variable (Some e) = record { variable = variable; sharing = shared_from (is_of_environment variable.origin) e.sharing; is_private = e.is_private }

@@ -20,6 +20,11 @@ met true Environment = EnvironmentOverride
 met true origin = origin
 met false origin = origin
 
+abbrev pub is_of_environment : Origin → Bool
+is_of_environment Environment = true
+is_of_environment EnvironmentOverride = true
+is_of_environment origin = false
+
 -- a definition from here is passed over, where there is a variable from there
 abbrev pub is_passed_over : (here there : Origin) → Bool
 is_passed_over here there = nat_lt (rank here) (rank there)

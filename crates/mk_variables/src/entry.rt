@@ -5,7 +5,7 @@ ghost use Rattle.mk_variables.specs.Definition.{defined, marked, new_entry, rede
 ghost use Rattle.mk_variables.specs.Statement.{shared_as};
 ghost use Rattle.mk_variables.specs.Shown.{entry_of};
 
-use crate::rank::{is_passed_over, met};
+use crate::rank::{is_of_environment, is_passed_over, met};
 use crate::value::{flavor_by, join, text_by};
 use mk_assignments::{Modifiers, Sign};
 use mk_functions::{Flavor, Origin, Variable};
@@ -101,7 +101,7 @@ impl Entry {
         self.text = text;
         self.flavor = flavor;
         self.origin = origin;
-        if matches!(origin, Origin::Environment) {
+        if is_of_environment(origin) {
             self.sharing = Sharing::Exported;
         }
     }

@@ -1,6 +1,6 @@
 //! Which of two definitions counts.
 ghost use Rattle.std.specs.Prelude.{◌≡◌};
-ghost use Rattle.mk_variables.specs.Ranks.{rank, met, is_passed_over};
+ghost use Rattle.mk_variables.specs.Ranks.{rank, met, is_of_environment, is_passed_over};
 
 use mk_functions::Origin;
 
@@ -29,6 +29,20 @@ pub(crate) fn met(is_environment_first: bool, origin: Origin) -> Origin
     match origin {
         Origin::Environment => Origin::EnvironmentOverride,
         _ => origin,
+    }
+}
+
+/// Whether a variable of this origin came with the environment.
+pub(crate) fn is_of_environment(origin: Origin) -> bool
+    ensures { result ≡ is_of_environment origin }
+{
+    match origin {
+        Origin::Environment | Origin::EnvironmentOverride => true,
+        Origin::Default
+        | Origin::File
+        | Origin::CommandLine
+        | Origin::Override
+        | Origin::Automatic => false,
     }
 }
 

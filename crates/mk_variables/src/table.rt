@@ -8,7 +8,7 @@ ghost use Rattle.mk_variables.specs.Statement.{shared_as, without};
 ghost use Rattle.mk_variables.specs.Shown.{entry_in, shown_entry};
 
 use crate::entry::{Entry, Manner, Sharing, defined_anew};
-use crate::rank::{is_passed_over, met};
+use crate::rank::{is_of_environment, is_passed_over, met};
 use indexmap::IndexMap;
 use mk_functions::{Definitions, Flavor, Origin, Variable};
 use name_keys::{Name, NameRef};
@@ -58,7 +58,7 @@ fn put_in(
         return Ok(());
     }
     let mut entry = Entry::new(text, flavor, origin);
-    if matches!(origin, Origin::Environment) {
+    if is_of_environment(origin) {
         entry.share(Sharing::Exported);
     }
     let name = Name::from_slice(alloc, name)?;
