@@ -28,7 +28,6 @@ WAITING_EXPORTS = {
     "jb_marks": {"Known", "MemorySights", "Placed", "is_same"},
     "jb_slots": {"Fifo", "dry"},
     # What a target alone has, behind its colon, is read by it.
-    "mk_assignments": {"definition_of"},
     "mk_conditionals": {"Reading"},
     "mk_eval": {"MAX_INCLUDE_DEPTH"},
     "mk_functions": {"MAX_CALLS", "MAX_PIECES", "MAX_VALUE"},
