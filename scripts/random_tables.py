@@ -64,7 +64,10 @@ def statement():
 def setting():
     environment = {name: text(name) for name in NAMES if random.random() < 0.25}
     names = [name for name in NAMES if name != "CC" and random.random() < 0.2]
-    given = [name + random.choice(["=", "=", ":=", "+=", "?="]) + text(name).replace("$(CC)", "").replace(" CC", " b").strip() for name in names]
+    given = []  # GNU make reads them before it has what is built in.
+    for name in names:
+        sign = random.choice(["=", "=", ":=", "+=", "?="])
+        given.append(name + sign + (random.choice(["", "x", "y  z", "$$"]) if sign == ":=" else text(name).strip()))
     return environment, random.random() < 0.3, given, [statement() for _ in range(random.randint(1, 7))]
 
 
@@ -134,7 +137,6 @@ def main():
         print("no GNU make: nothing is compared\n1 passed, 0 failed")
         return 0
     rows = [row(f"list {place}", *setting()) for place in range(int(sys.argv[2]) if len(sys.argv) > 2 else 2000)]
-    open("/tmp/var/rows.txt","w").write("\n".join(rows))
     return subprocess.run([PROGRAM], input="\n".join(rows).encode(), check=False).returncode
 
 
