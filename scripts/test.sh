@@ -46,6 +46,7 @@ if [ "$failed" -eq 0 ]; then
     run_part python3 scripts/random_depfiles.py
     run_part python3 scripts/random_makefiles.py
     run_part python3 scripts/random_wide_makefiles.py
+    run_part python3 scripts/random_old_files.py
     run_part python3 scripts/random_graphs.py crates/dmk/out/dmk
     run_part bash scripts/slot_runs.sh
     run_part bash scripts/two_runs.sh
