@@ -6,6 +6,7 @@ use Rattle.mk_profile.specs.Profile.{is_wide}
 use Rattle.mk_profile.specs.declared.profile.Profile.{Profile}
 use Rattle.mk_lines.specs.Text.{is_dollar, is_empty, is_text}
 use Rattle.mk_reader.specs.Grammar.{refusal, is_bad_include, IsIncludeForm, IsLine, IsTextLine, IsRecipeLine, IsOfKind, IsForm}
+use Rattle.mk_reader.specs.Blanks.{told_behind}
 use Rattle.mk_reader.specs.Directive.{told_as}
 use Rattle.mk_lines.specs.Quoted.{signs_in}
 use Rattle.mk_reader.specs.Form.{include_kind, include_form, opened_form, decided_form, line_form, line_content, content_form, statement_form, recipe_form, form_of}
@@ -99,18 +100,19 @@ module _ (file : List ℕ) (number : ℕ) (profile : Profile) where
       let content = line_content profile text in
       let has = content_said profile text in
       by_test (IsTextLine profile file number text) (is_text content) _ _
-      (λ t. (content, has, inr (t, (trimmed content, trimmed_padded content, line_said (trimmed content)))))
+      (λ t. (content, has, inr (t, (trimmed content, trimmed_padded content, (line_form profile file number (trimmed content), line_said (trimmed content), refl)))))
       (λ f. (content, has, inl (f, refl)))
 
   pub text_back : (text : List ℕ) (told : Told) → IsTextLine profile file number text told → statement_form profile file number text ≡ told
   unfolding statement_form content_form
   text_back text told (content, has, inl (bad, e)) =
-      ap (λ c. cond (is_text c) (line_form profile file number (trimmed c)) (Err (refusal file number cause.NotText))) (content_is profile text content has)
-      ∙ ap (λ t. cond t (line_form profile file number (trimmed content)) (Err (refusal file number cause.NotText))) bad ∙ sym e
-  text_back text told (content, has, inr (good, (line, padded, h))) =
-      ap (λ c. cond (is_text c) (line_form profile file number (trimmed c)) (Err (refusal file number cause.NotText))) (content_is profile text content has)
-      ∙ ap (λ t. cond t (line_form profile file number (trimmed content)) (Err (refusal file number cause.NotText))) good
-      ∙ ap (line_form profile file number) (trimmed_is content line padded) ∙ line_back line told h
+      ap (λ c. cond (is_text c) (told_behind profile c (line_form profile file number (trimmed c))) (Err (refusal file number cause.NotText))) (content_is profile text content has)
+      ∙ ap (λ t. cond t (told_behind profile content (line_form profile file number (trimmed content))) (Err (refusal file number cause.NotText))) bad ∙ sym e
+  text_back text told (content, has, inr (good, (line, padded, (plain, h, is)))) =
+      ap (λ c. cond (is_text c) (told_behind profile c (line_form profile file number (trimmed c))) (Err (refusal file number cause.NotText))) (content_is profile text content has)
+      ∙ ap (λ t. cond t (told_behind profile content (line_form profile file number (trimmed content))) (Err (refusal file number cause.NotText))) good
+      ∙ ap (λ xs. told_behind profile content (line_form profile file number xs)) (trimmed_is content line padded)
+      ∙ ap (told_behind profile content) (line_back line plain h) ∙ sym is
 
   recipe_said : (text : List ℕ) → IsRecipeLine file number text (recipe_form file number text)
   unfolding recipe_form

@@ -200,4 +200,4 @@ module _ (profile : Profile) (text line left right : List ℕ) (at : line ≡ tr
       let told = Ok (form.Rule (record { special = None; rule = rule })) in
       let special = has_special profile (trimmed left) None (without_dot profile (first_word (trimmed left)) (word_without_dot (trimmed left) bare)) in
       let said : IsStatement profile file number line told = (refl, refl, None, refl, spelled some, special, refl) in
-      text_back file number profile text told (text, has_content, inr (good, (line, padded, inr (inr (line_some, none_included kind, (told, said, refl))))))
+      text_back file number profile text told (text, has_content, inr (good, (line, padded, (told, inr (inr (line_some, none_included kind, (told, said, refl))), refl))))

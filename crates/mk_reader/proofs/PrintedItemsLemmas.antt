@@ -143,7 +143,7 @@ unfolding is_text
 empty_text = ap (λ t. t && true) (is_utf8-from_IsUtf8 [] IsUtf8-nil)
 
 blank_read : (profile : Profile) (file : List ℕ) (number : ℕ) → IsForm profile file (line_of_text number []) (Ok form.Blank)
-blank_read profile file number = ([], subst (HasContent profile []) (alone profile [] refl) (content_said profile []), inr (empty_text, ([], ([], [], refl, refl, refl, refl, refl), inl (refl, refl))))
+blank_read profile file number = ([], subst (HasContent profile []) (alone profile [] refl) (content_said profile []), inr (empty_text, ([], ([], [], refl, refl, refl, refl, refl), (Ok form.Blank, inl (refl, refl), refl))))
 
 module _ (profile : Profile) (file : List ℕ) where
   none_below : (number : ℕ) (items : List PlainItem) → ArePlain profile items → RecipeBelow profile file (plain_lines number items) []

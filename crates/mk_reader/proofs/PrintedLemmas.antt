@@ -104,7 +104,7 @@ without_spaced (b ∷ bs) w = (plain 32 ∷ w.0, w.1, ap (λ xs. 32 ∷ xs) w.2,
 itself_read : (profile : Profile) (file : List ℕ) (number : ℕ) (text : List ℕ) (f : Form) → Lacks 35 text → is_text text ≡ true → HasBareEnds text → is_empty text ≡ false → IsNoInclude profile text → IsStatement profile file number text (Ok f) →
     IsTextLine profile file number text (Ok f)
 itself_read profile file number text f hash good bare some none is =
-    (text, subst (HasContent profile text) (alone profile text hash) (content_said profile text), inr (good, (text, padded_itself text bare, inr (inr (some, none, (Ok f, is, refl))))))
+    (text, subst (HasContent profile text) (alone profile text hash) (content_said profile text), inr (good, (text, padded_itself text bare, (Ok f, inr (inr (some, none, (Ok f, is, refl))), refl))))
 
 -- a line whose words before a space begin no include line is none
 no_include : (profile : Profile) (front rest : List ℕ) → ((word : List ℕ) (required : Bool) → BeginsInclude profile word required → BeginsWithWord front word → ⊥) → IsNoInclude profile (front ++ 32 ∷ rest)

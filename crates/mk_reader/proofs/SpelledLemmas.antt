@@ -272,6 +272,7 @@ module _ (file : List ℕ) (number : ℕ) (profile : Profile) where
   refused_back line (cause.Unsupported feature.RecipePrefix) h = absurd h
   refused_back line (cause.Unsupported feature.IncludeWildcard) h = absurd h
   refused_back line cause.NotText h = absurd h
+  refused_back line cause.BlanksInFront h = absurd h
   refused_back line cause.TabFirst h = absurd h
   refused_back line cause.IncludeDepth h = absurd h
   refused_back line (cause.IncludeMissing name) h = absurd h

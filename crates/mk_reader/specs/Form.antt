@@ -4,6 +4,7 @@ use Rattle.std.specs.List.{before_first, list_any, list_all}
 use Rattle.byte_strings.specs.Blanks.{is_blank, trimmed_start, trimmed, first_word}
 use Rattle.mk_profile.specs.Profile.{is_wide}
 use Rattle.mk_profile.specs.declared.profile.Profile.{Profile}
+use Rattle.mk_reader.specs.Blanks.{told_behind}
 use Rattle.mk_reader.specs.Directive.{told_as}
 use Rattle.mk_reader.specs.Spelled.{is_name_byte, is_apart, without_plus}
 use Rattle.mk_lines.specs.Quoted.{signs_in}
@@ -198,7 +199,7 @@ line_content profile text = if is_wide profile && opens_recipe text then text el
 -- a line without its comment
 unfoldable pub content_form : Profile → List ℕ → ℕ → List ℕ → Result Form Refusal
 content_form profile file number content =
-    if is_text content then line_form profile file number (trimmed content) else Err (refusal file number NotText)
+    if is_text content then told_behind profile content (line_form profile file number (trimmed content)) else Err (refusal file number NotText)
 
 -- a line that is no recipe line
 unfoldable pub statement_form : Profile → List ℕ → ℕ → List ℕ → Result Form Refusal

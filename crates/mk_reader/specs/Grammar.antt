@@ -6,6 +6,7 @@ use Rattle.byte_strings.specs.Blanks.{is_blank}
 use Rattle.mk_profile.specs.Profile.{is_wide}
 use Rattle.mk_profile.specs.declared.profile.Profile.{Profile}
 use Rattle.mk_lines.specs.Text.{is_dollar, is_empty, begins_with, is_text}
+use Rattle.mk_reader.specs.Blanks.{told_behind}
 use Rattle.mk_reader.specs.Directive.{told_as}
 use Rattle.mk_reader.specs.declared.item.DefinitionKind.{DefinitionKind}
 use Rattle.mk_reader.specs.declared.item.DefinitionKind.TheVariants.{IfUndefined}
@@ -65,6 +66,7 @@ IsRefused profile line (cause.Unsupported feature.SearchPath) = ⊥
 IsRefused profile line (cause.Unsupported feature.RecipePrefix) = ⊥
 IsRefused profile line (cause.Unsupported feature.IncludeWildcard) = ⊥
 IsRefused profile line cause.NotText = ⊥
+IsRefused profile line cause.BlanksInFront = ⊥
 IsRefused profile line cause.TabFirst = ⊥
 IsRefused profile line cause.IncludeDepth = ⊥
 IsRefused profile line (cause.IncludeMissing name) = ⊥
@@ -123,7 +125,8 @@ abbrev pub IsTextLine : Profile → (file : List ℕ) (number : ℕ) (text : Lis
 IsTextLine profile file number text told =
     (content : List ℕ) × HasContent profile text content
     × (((is_text content ≡ false) × (told ≡ Err (refusal file number cause.NotText)))
-    ⊎ ((is_text content ≡ true) × ((line : List ℕ) × Padded content line × IsLine profile file number line told)))
+    ⊎ ((is_text content ≡ true) × ((line : List ℕ) × Padded content line
+    × ((plain : Result Form Refusal) × IsLine profile file number line plain × (told ≡ told_behind profile content plain)))))
 
 -- a recipe line has no comments; one of blanks alone is passed over
 abbrev pub IsRecipeLine : (file : List ℕ) (number : ℕ) (text : List ℕ) → Result Form Refusal → Type 0

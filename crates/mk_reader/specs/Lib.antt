@@ -1,4 +1,6 @@
 -- The model is Comments, Spelled, Grammar, Special and Statements, over the lines of mk_lines; Form is what the code does.
+-- Blanks: how a line is told that has blanks in front.
+pub mod Blanks
 -- BuiltIn: the name of the rules that are built in.
 pub mod BuiltIn
 -- Comments: what a line holds without its comment.

@@ -15,7 +15,7 @@ use Rattle.mk_reader.specs.declared.item.Item.TheVariants as item
 use Rattle.mk_reader.specs.declared.item.Statement.{Statement}
 use Rattle.mk_reader.specs.declared.item.Statement.TheVariants as statement
 use Rattle.mk_reader.specs.declared.fault.Cause.{Cause}
-use Rattle.mk_reader.specs.declared.fault.Cause.TheVariants.{MissingSeparator, TabFirst}
+use Rattle.mk_reader.specs.declared.fault.Cause.TheVariants.{MissingSeparator, BlanksInFront, TabFirst}
 use Rattle.mk_reader.specs.declared.fault.Refusal.{Refusal}
 use Rattle.mk_reader.specs.declared.fault.ReadFault.{ReadFault}
 use Rattle.mk_reader.specs.declared.fault.ReadFault.TheVariants.{OutOfMemory, Refused}
@@ -63,6 +63,7 @@ may_be_rule _ = false
 
 abbrev pub lacks_separator : Cause → Bool
 lacks_separator MissingSeparator = true
+lacks_separator BlanksInFront = true
 lacks_separator _ = false
 
 -- a line that is told as this elsewhere

@@ -7,6 +7,7 @@ ghost use Rattle.mk_lines.specs.References.{first_outside};
 ghost use Rattle.mk_reader.specs.Spelled.{without_plus, is_name_byte, begins_blank, is_apart};
 ghost use Rattle.mk_lines.specs.declared.reference.Place.TheVariants.{Outside};
 
+use crate::blanks::begins_blank;
 use crate::fault::{Cause, Feature, ReadFault};
 use crate::form::Form;
 use crate::item::{Definition, DefinitionKind, DefinitionLine};
@@ -144,15 +145,6 @@ fn without_plus(left: &[u8]) -> &[u8]
         return without_last(left);
     }
     left
-}
-
-fn begins_blank(bytes: &[u8]) -> bool
-    ensures { result ≡ begins_blank bytes.now }
-{
-    match bytes.split_first() {
-        Some((first, _)) => is_blank(*first),
-        None => false,
-    }
 }
 
 fn ends_blank(bytes: &[u8]) -> bool

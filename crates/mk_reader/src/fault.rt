@@ -106,6 +106,9 @@ pub enum Cause {
     /// A line that is neither an include line, a definition nor a rule.
     #[error("missing separator")]
     MissingSeparator,
+    /// Such a line with blanks in front, in the wide profile.
+    #[error("missing separator (blanks in front: did you mean a TAB?)")]
+    BlanksInFront,
     /// A recipe line that no rule line stands above.
     #[error("recipe line before any rule")]
     TabFirst,

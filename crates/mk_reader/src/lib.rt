@@ -2,6 +2,7 @@
 //! `statements_of` is the one call; `laws` says in which sense the definition of a text's lines is right.
 #![tactic(auto)]
 
+mod blanks;
 mod comment;
 mod definition_line;
 mod directive;

@@ -36,7 +36,7 @@ fn lacks_separator(cause: &Cause) -> bool
     ensures { result ≡ lacks_separator cause.now }
 {
     match cause {
-        Cause::MissingSeparator => true,
+        Cause::MissingSeparator | Cause::BlanksInFront => true,
         _ => false,
     }
 }

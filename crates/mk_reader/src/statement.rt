@@ -9,6 +9,7 @@ ghost use Rattle.mk_reader.specs.Form.{Gives, include_kind, include_form, prereq
 ghost use Rattle.mk_lines.specs.References.{first_outside};
 ghost use Rattle.mk_lines.specs.declared.reference.Place.TheVariants.{Outside};
 
+use crate::blanks::refusal_behind;
 use crate::comment::{before_comment, unescaped};
 use crate::definition_line::{definition_form, kind_form, set_form};
 use crate::directive::told_refusal;
@@ -272,7 +273,14 @@ fn content_form(place: LinePlace<'_>, content: &[u8]) -> Result<Form, ReadFault>
     if !is_text(content) {
         return Err(refuse(place, Cause::NotText));
     }
-    line_form(place, trim(content))
+    match line_form(place, trim(content)) {
+        Ok(form) => Ok(form),
+        Err(ReadFault::OutOfMemory) => Err(ReadFault::OutOfMemory),
+        Err(ReadFault::Refused(refused)) => {
+            let told = refusal_behind(place.profile, content, refused);
+            Err(ReadFault::Refused(told))
+        }
+    }
 }
 
 /// The form of a line that is no recipe line.
