@@ -1,8 +1,7 @@
 -- Where paths lead part by part, and rule lines with names in the place of wildcards.
 use Rattle.std.proofs.Common.{◌≡◌, ℕ, Bool, true, false, ◌||◌, cond, List, [], ◌∷◌, ◌++◌, map, flat_map, refl, sym, ap, ◌∙◌, append_assoc}
 use Rattle.std.specs.List.{list_any, slice_split, onto_first}
-use Rattle.mk_macros.specs.Expansion as expansion
-use Rattle.mk_macros.specs.Expansion.{gives, fails}
+use Rattle.mk_macros.specs.Expansion.{gives}
 use Rattle.mk_macros.specs.Ranks.{Defined}
 use Rattle.mk_wildcards.specs.Pattern.{has_wildcard}
 use Rattle.mk_wildcards.specs.Found.{Folders, is_slash, parts, joined, steps, is_end, found, in_order, or_itself, names_of, line_of}

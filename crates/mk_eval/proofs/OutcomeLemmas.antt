@@ -18,7 +18,7 @@ use Rattle.mk_lines.specs.References.{Without}
 use Rattle.mk_reader.specs.Grammar.{refusal}
 use Rattle.mk_lines.specs.Quoted.{without_quoted}
 use Rattle.mk_reader.specs.Printed.{PlainItem, definition, rule, ArePlain, printed, next, after_recipe, definition_on, recipe_on, items_on}
-use Rattle.mk_reader.specs.declared.fault.Cause.TheVariants.{IncludeDepth, IncludeMissing, Macro}
+use Rattle.mk_reader.specs.declared.fault.Cause.TheVariants.{IncludeDepth, Macro}
 use Rattle.mk_reader.specs.declared.directive.Directive.TheVariants.{Vpath}
 use Rattle.mk_reader.specs.declared.fault.Feature.TheVariants.{GroupedTargets, ShellFlags, SearchPath, RecipePrefix, Directive}
 use Rattle.mk_reader.specs.declared.fault.ReadFault.{ReadFault}
@@ -40,7 +40,6 @@ use Rattle.mk_eval.specs.Output.{World, with_shell}
 use Rattle.mk_eval.specs.Unmade.{outcome_beside}
 use Rattle.mk_eval.specs.Judged.{searches, changes_recipes, opens_vpath, refused_among, at_line, with_refusal, judged, all_judged}
 use Rattle.mk_eval.specs.PlainRules.{IsPlainText, IsPlainLine, IsPlainRule, IsTakenRule, IsTakenSpecial, IsTakenDefinition, ArePlainRules}
-use Rattle.mk_eval.specs.Static.{doubled}
 use Rattle.mk_eval.specs.Listed.{listed_text}
 use Rattle.mk_eval.specs.Short.{has_other_names}
 use Rattle.mk_eval.proofs.ListedLemmas.{text_plain}

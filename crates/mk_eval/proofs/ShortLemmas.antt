@@ -1,5 +1,5 @@
 -- Texts without a backslash, and first words that are their own short forms.
-use Rattle.std.proofs.Common.{◌≡◌, ℕ, ◌+◌, Bool, true, false, cond, not, ◌&&◌, ◌||◌, List, [], ◌∷◌, length, take, drop, refl, sym, ap, ◌∙◌, arith}
+use Rattle.std.proofs.Common.{◌≡◌, ℕ, ◌+◌, false, cond, not, ◌&&◌, ◌||◌, List, [], ◌∷◌, take, drop, refl, sym, ap, ◌∙◌, arith}
 use Rattle.std.specs.List.{list_any, position_or_len, before_first}
 use Rattle.byte_strings.specs.Blanks.{is_blank, first_word, words}
 use Rattle.byte_strings.proofs.WordLemmas.{words-cons}

@@ -5,7 +5,6 @@ use Rattle.byte_strings.specs.Blanks.{words}
 use Rattle.mk_macros.specs.Expansion.{gives}
 use Rattle.mk_macros.specs.Ranks.{defined_by}
 use Rattle.mk_profile.specs.Profile.{is_wide}
-use Rattle.mk_reader.specs.Grammar.{refusal}
 use Rattle.mk_wildcards.specs.Pattern.{has_wildcard}
 use Rattle.mk_reader.specs.declared.item.Statement.{Statement}
 use Rattle.mk_reader.specs.declared.item.Statement.TheVariants as statement
