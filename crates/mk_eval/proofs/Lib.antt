@@ -4,6 +4,7 @@ pub mod ListedLemmas
 pub mod MakefileLemmas
 pub mod OrderLemmas
 pub mod OutcomeLemmas
+pub mod QuietLemmas
 pub mod RuleLemmas
 pub mod ShortLemmas
 pub mod StemLemmas

@@ -242,7 +242,7 @@ rule_listed world lines given targets prerequisites = (
   },
 )
 
-rule_given : (world : World) (wide : Bool) (lines : Rule) (given : Defined) → special_name given.language (first_word lines.targets) ≡ None →
+pub rule_given : (world : World) (wide : Bool) (lines : Rule) (given : Defined) → special_name given.language (first_word lines.targets) ≡ None →
     (wide ≡ true → (DefinesMacro lines.prerequisites → ⊥) × Without 58 58 (without_quoted lines.prerequisites) × IsPlainText lines.targets × IsPlainText lines.prerequisites) →
     RuleItems world wide lines given (Ok (item.Rule lines ∷ []))
 rule_given world true lines given none plain =

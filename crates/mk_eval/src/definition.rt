@@ -11,6 +11,7 @@ use crate::doubled::doubled;
 use crate::includes::Includes;
 use crate::names::follow;
 use crate::output::run_definition;
+use crate::quiet::gives_itself;
 use crate::refuse::{refuse, refuse_text};
 use crate::rule::evaluate_rule;
 use crate::special_rule::evaluate_special;
@@ -153,6 +154,11 @@ pub fn add_item<I: Includes>(
 {
     // The strict profile takes each item as it stands, and has no references in the lines that are read next.
     if !macros.profile().is_wide() {
+        items.push(item)?;
+        return Ok(());
+    }
+    // So it is with most rules in the wide one.
+    if gives_itself(&item) {
         items.push(item)?;
         return Ok(());
     }

@@ -11,6 +11,7 @@ mod listed;
 mod makefile;
 mod names;
 mod output;
+mod quiet;
 mod refuse;
 mod rule;
 mod short;
