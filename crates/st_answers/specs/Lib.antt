@@ -16,3 +16,5 @@ pub mod Graph
 pub mod Stale
 -- why a target isn't as it was made, down to what is changed behind it
 pub mod Why
+-- files of targets that may be removed, and what is told of those that stay
+pub mod Cleaning

@@ -157,19 +157,19 @@ fn is_as_marked(mark: Mark, look: Mark) -> bool
     }
 }
 
-fn is_no_file(look: Mark) -> bool
+pub(crate) fn is_no_file(look: Mark) -> bool
     ensures { result ≡ is_no_file look }
 {
     matches!(look, Mark::NoFile)
 }
 
-fn is_other(look: Mark) -> bool
+pub(crate) fn is_other(look: Mark) -> bool
     ensures { result ≡ is_other look }
 {
     matches!(look, Mark::Other)
 }
 
-fn has_stamp(stamp: Stamp, look: Mark) -> bool
+pub(crate) fn has_stamp(stamp: Stamp, look: Mark) -> bool
     ensures { result ≡ has_stamp stamp look }
 {
     match look {
@@ -185,7 +185,7 @@ fn same_stamp(a: Stamp, b: Stamp) -> bool
 }
 
 /// The mark of the target's own file, an unknown one where it can't be read; None where no marks are kept.
-fn own_mark(entry: &PackedEntry) -> Option<Mark>
+pub(crate) fn own_mark(entry: &PackedEntry) -> Option<Mark>
     ensures { result ≡ own_mark entry.now }
 {
     own_mark_of(entry.hidden().len(), entry.lend())

@@ -39,7 +39,7 @@ pub fn causes(
     Ok(text)
 }
 
-fn look_at(looks: &Looks<'_>, name: &[u8]) -> Mark
+pub(crate) fn look_at(looks: &Looks<'_>, name: &[u8]) -> Mark
     ensures { result ≡ look_in looks.now name.now }
 {
     match looks.get(name) {
