@@ -2,7 +2,8 @@
 -- look at a name finds is said as a mark ("Stale").
 use Rattle.std.specs.Prelude.{ℕ, ◌==◌, ◌&&◌, ◌||◌, not, Bool, true, false, List, [], ◌∷◌, Option, None, Some, codes, drop, filter, if◌then◌else◌}
 use Rattle.std.specs.Bool.{nat_eq}
-use Rattle.std.specs.List.{flat_map, starts_with}
+use Rattle.std.specs.List.{flat_map, list_any, starts_with}
+use Rattle.std.specs.Str.{bytes_eq}
 use Rattle.std.specs.FinMap as map
 use Rattle.st_records.specs.declared.record.Phase.{Phase}
 use Rattle.st_records.specs.declared.record.Phase.TheVariants as phases
@@ -49,9 +50,17 @@ is_made_by phases.Begun mark look = false
 is_made_by phases.Done mark look = has_mark mark look
 is_made_by (phases.Failed status) mark look = false
 
--- the target is done, and its file the one that was made
+-- a command that does nothing (POSIX, "colon" and "true")
+abbrev pub is_idle : List ℕ → Bool
+is_idle command = bytes_eq command (codes ":") || bytes_eq command (codes "true")
+
+-- some command does something: a file that none made may be a source
+abbrev pub has_work : List (List ℕ) → Bool
+has_work commands = list_any (λ c. not (is_idle c)) commands
+
+-- the target is done by commands, and its file the one that was made
 abbrev pub is_made : Entry → (look : Mark) → Bool
-is_made entry look = is_made_by entry.phase (own_mark entry) look
+is_made entry look = is_made_by entry.phase (own_mark entry) look && has_work entry.commands
 
 -- what is no target was never made
 abbrev pub is_known_made : Option Entry → (look : Mark) → Bool
@@ -70,24 +79,28 @@ removable look outside m names = filter (is_removable look outside m) names
 
 -- ---- which stay, and why
 
--- of a file of a done target: one that is as it was made stays since it is outside the tree
-abbrev pub file_word : Option Mark → (look : Mark) → List ℕ
-file_word None look = codes "unmarked"
-file_word (Some Unknown) look = codes "unmarked"
-file_word (Some NoFile) look = codes "changed"
-file_word (Some Other) look = if is_other look then codes "other" else codes "changed"
-file_word (Some (File stamp)) look = if has_stamp stamp look then codes "outside" else codes "changed"
-file_word (Some (Own stamp)) look = if has_stamp stamp look then codes "outside" else codes "changed"
+-- of a file that is as it was made
+abbrev pub made_word : (work : Bool) → List ℕ
+made_word work = if work then codes "outside" else codes "idle"
 
-abbrev pub stay_word : Phase → Option Mark → (look : Mark) → List ℕ
-stay_word phases.Begun mark look = codes "begun"
-stay_word phases.Done mark look = file_word mark look
-stay_word (phases.Failed status) mark look = codes "failed"
+-- of a file of a done target
+abbrev pub file_word : (work : Bool) → Option Mark → (look : Mark) → List ℕ
+file_word work None look = codes "unmarked"
+file_word work (Some Unknown) look = codes "unmarked"
+file_word work (Some NoFile) look = codes "changed"
+file_word work (Some Other) look = if is_other look then codes "other" else codes "changed"
+file_word work (Some (File stamp)) look = if has_stamp stamp look then made_word work else codes "changed"
+file_word work (Some (Own stamp)) look = if has_stamp stamp look then made_word work else codes "changed"
+
+abbrev pub stay_word : Phase → (work : Bool) → Option Mark → (look : Mark) → List ℕ
+stay_word phases.Begun work mark look = codes "begun"
+stay_word phases.Done work mark look = file_word work mark look
+stay_word (phases.Failed status) work mark look = codes "failed"
 
 -- a line for a file that is there and isn't removed
 abbrev pub stay_row : (removed : Bool) → (name : List ℕ) → Entry → (look : Mark) → List ℕ
 stay_row removed name entry look =
-    if removed || is_no_file look then [] else row (stay_word entry.phase (own_mark entry) look) name
+    if removed || is_no_file look then [] else row (stay_word entry.phase (has_work entry.commands) (own_mark entry) look) name
 
 abbrev pub known_row : (removed : Bool) → (name : List ℕ) → Option Entry → (look : Mark) → List ℕ
 known_row removed name None look = []

@@ -3,7 +3,7 @@
 ghost use Rattle.std.specs.Prelude.{◌≡◌, ◌++◌, ◌∷◌, [], IfOk, OnOk, if◌then◌else◌};
 ghost use Rattle.std.specs.Option.{option_copied};
 ghost use Rattle.st_answers.specs.Why.{look_in};
-ghost use Rattle.st_answers.specs.Cleaning.{has_mark, is_known_made, is_made, is_removable, removable, file_word, stay_word, stay_row, known_row, name_row, stay_text};
+ghost use Rattle.st_answers.specs.Cleaning.{has_mark, is_known_made, is_made, is_removable, removable, has_work, is_idle, made_word, file_word, stay_word, stay_row, known_row, name_row, stay_text};
 
 use crate::leaving::leads_out;
 use crate::line_text::append_row;
@@ -12,12 +12,12 @@ use crate::why::{Looks, look_at};
 use mk_names::Names;
 use st_marks::Mark;
 use st_packed::PackedEntry;
-use st_records::{ByteStrings, Phase};
+use st_records::{ByteStrings, Iter, Phase};
 use st_state::State;
 use std::alloc::{AllocError, Global};
 
-/// Those of the names that are targets which are done, and at which the looks found the file that was made, of the time and size of
-/// its mark: in the tree below the working folder, or `outside` too.
+/// Those of the names that are targets which commands made, and at which the looks found the file that was made, of the time and size
+/// of its mark: in the tree below the working folder, or `outside` too.
 pub fn removable(
     alloc: Global,
     state: &State,
@@ -101,7 +101,12 @@ fn append_stay(
     if removed || is_no_file(look) {
         return Ok(());
     }
-    append_row(text, stay_word(entry.phase(), own_mark(entry), look), name)
+    let work = has_work(&entry.commands());
+    append_row(
+        text,
+        stay_word(entry.phase(), work, own_mark(entry), look),
+        name,
+    )
 }
 
 fn is_removable(state: &State, looks: &Looks<'_>, name: &[u8], outside: bool) -> bool
@@ -123,9 +128,29 @@ fn is_made(entry: &PackedEntry, look: Mark) -> bool
     ensures { result ≡ is_made entry.now look }
 {
     match entry.phase() {
-        Phase::Done => has_mark(own_mark(entry), look),
+        Phase::Done => has_mark(own_mark(entry), look) && has_work(&entry.commands()),
         Phase::Begun | Phase::Failed(_) => false,
     }
+}
+
+/// Some command does something.
+fn has_work(commands: &Iter<'_>) -> bool
+    ensures { result ≡ has_work commands.now }
+{
+    for command in commands.iter() {
+        if !is_idle(command) {
+            return true;
+        }
+    }
+    false
+}
+
+fn is_idle(command: &[u8]) -> bool
+    ensures { result ≡ is_idle command.now }
+{
+    let colon: &[u8] = b":";
+    let yes: &[u8] = b"true";
+    command == colon || command == yes
 }
 
 fn has_mark(mark: Option<Mark>, look: Mark) -> bool
@@ -137,23 +162,29 @@ fn has_mark(mark: Option<Mark>, look: Mark) -> bool
     }
 }
 
-fn stay_word(phase: Phase, mark: Option<Mark>, look: Mark) -> &'static [u8]
-    ensures { result.now ≡ stay_word phase mark look }
+fn stay_word(phase: Phase, work: bool, mark: Option<Mark>, look: Mark) -> &'static [u8]
+    ensures { result.now ≡ stay_word phase work mark look }
 {
     match phase {
         Phase::Begun => b"begun",
-        Phase::Done => file_word(mark, look),
+        Phase::Done => file_word(work, mark, look),
         Phase::Failed(_) => b"failed",
     }
 }
 
-fn file_word(mark: Option<Mark>, look: Mark) -> &'static [u8]
-    ensures { result.now ≡ file_word mark look }
+fn file_word(work: bool, mark: Option<Mark>, look: Mark) -> &'static [u8]
+    ensures { result.now ≡ file_word work mark look }
 {
     match mark {
         None | Some(Mark::Unknown) => b"unmarked",
         Some(Mark::Other) if is_other(look) => b"other",
-        Some(Mark::File(stamp) | Mark::Own(stamp)) if has_stamp(stamp, look) => b"outside",
+        Some(Mark::File(stamp) | Mark::Own(stamp)) if has_stamp(stamp, look) => made_word(work),
         Some(_) => b"changed",
     }
+}
+
+fn made_word(work: bool) -> &'static [u8]
+    ensures { result.now ≡ made_word work }
+{
+    if work { b"outside" } else { b"idle" }
 }
