@@ -17,9 +17,10 @@ _dmk_tool() {
         *,-*,list) mapfile -t COMPREPLY < <(compgen -W '--json --state --help' -- "$word") ;;
         *,-*,compdb) mapfile -t COMPREPLY < <(compgen -W '--all --state --help' -- "$word") ;;
         *,-*,graph) mapfile -t COMPREPLY < <(compgen -W '--depth --hidden --state --help' -- "$word") ;;
+        *,-*,clean) mapfile -t COMPREPLY < <(compgen -W '--dry-run --outside --targets --state --help' -- "$word") ;;
         *,-*,*) mapfile -t COMPREPLY < <(compgen -W '--state --help --version' -- "$word") ;;
-        *,) mapfile -t COMPREPLY < <(compgen -W 'targets commands hidden query why compdb list graph help' -- "$word") ;;
-        *,commands | *,hidden | *,query | *,why | *,graph)
+        *,) mapfile -t COMPREPLY < <(compgen -W 'targets commands hidden query why compdb list graph clean help' -- "$word") ;;
+        *,commands | *,hidden | *,query | *,why | *,graph | *,clean)
             mapfile -t COMPREPLY < <(dmk_tool targets --state "$state" 2>/dev/null | cut -f 2- | grep "^$word") ;;
     esac
 }

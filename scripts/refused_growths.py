@@ -139,6 +139,7 @@ SWEEPS = [
     ("dmk_tool", "a listing as JSON", listing_refused, STATE, [TOOL, "list", "--json"]),
     ("dmk_tool", "a graph", listing_refused, STATE, [TOOL, "graph", "--hidden"]),
     ("dmk_tool", "causes", listing_refused, STATE, [TOOL, "why", *NAMES, "sum"]),
+    ("dmk_tool", "what would be removed", listing_refused, STATE, [TOOL, "clean", "-n"]),
 ]
 
 

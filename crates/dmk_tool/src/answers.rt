@@ -3,11 +3,13 @@
 ghost use Rattle.std.specs.Prelude.{◌≡◌, ◌⊎◌};
 
 use crate::causes::causes_of;
+use crate::cleaning::{Cleaned, clean};
 use crate::drawing::{MAX_NAMES, drawing_of};
 use crate::json::database;
 use crate::listing::listing_of;
 use crate::looks::looks_at_targets;
-use crate::request::{Asked, Question, Topic};
+use crate::request::{Asked, Cleaning, Question, Topic};
+use crate::state_lock::{LockFault, lock_state};
 use crate::streams::{tell, tell_of};
 use st_answers::{commands, compilations, hidden, query, stale_targets, targets};
 use st_disk::FailedCallMessage;
@@ -17,8 +19,8 @@ use st_programs::{Message, Refusal, read_state, standard_output};
 use st_records::HashKey;
 use st_state::State;
 use std::alloc::AllocError;
-use std::io::Write;
-use std::{env, fmt};
+use std::io::{self, Write};
+use std::{env, fmt, fs};
 
 /// Why there is no answer, or not a whole one.
 #[derive(Clone, Copy)]
@@ -29,6 +31,8 @@ pub enum Fault {
     Write,
     /// So many names would be drawn, and nothing was given that makes them fewer.
     TooMany(usize),
+    /// A file couldn't be removed, which was told.
+    NotRemoved,
 }
 
 /// The refusal of a graph, as the user reads it.
@@ -47,6 +51,21 @@ impl fmt::Display for TooMany {
     }
 }
 
+/// Why a state can't be locked, as the user reads it.
+#[derive(Drop)]
+struct NotLocked<'a> {
+    file: &'a str,
+    error: io::Error,
+}
+
+impl fmt::Display for NotLocked<'_> {
+    fn fmt<W: fmt::Write>(&self, f: &mut fmt::Formatter<W>) -> fmt::Result {
+        let file = self.file;
+        let error = &self.error;
+        write!(f, "{file}: cannot be locked: {error}")
+    }
+}
+
 impl From<AllocError> for Fault {
     fn from(_fault: AllocError) -> Fault {
         Fault::OutOfMemory
@@ -58,6 +77,30 @@ impl From<AllocError> for Fault {
 pub fn answer(rt: HostRuntime, asked: &Asked) -> u8
     ensures status { (result ≡ 0) ⊎ ((result ≡ 1) ⊎ (result ≡ 2)) }
 {
+    if !removes(rt, asked) {
+        return answer_of(rt, asked);
+    }
+    match lock_state(rt, asked.file.as_str()) {
+        Ok(lock) => {
+            let status = answer_of(rt, asked);
+            drop(lock);
+            status
+        }
+        Err(fault) => tell_no_lock(rt, asked.file.as_str(), fault),
+    }
+}
+
+/// Whether files are to be removed, and there may be a state that knows of any: where there is none, no lock file is made.
+fn removes(rt: HostRuntime, asked: &Asked) -> bool {
+    match &asked.question {
+        Question::Clean(cleaning) => !cleaning.dry_run && has_side(rt, asked.file.as_str()),
+        _ => false,
+    }
+}
+
+fn answer_of(rt: HostRuntime, asked: &Asked) -> u8
+    ensures { (result ≡ 0) ⊎ ((result ≡ 1) ⊎ (result ≡ 2)) }
+{
     let file = asked.file.as_str();
     let state = match read_state(rt, HashKey::from_system(&rt), file) {
         Ok(state) => state,
@@ -67,6 +110,16 @@ pub fn answer(rt: HostRuntime, asked: &Asked) -> u8
         Ok(true) => 0,
         Ok(false) => 1,
         Err(fault) => tell_fault(rt, file, fault),
+    }
+}
+
+fn has_side(rt: HostRuntime, file: &str) -> bool {
+    if fs::metadata(&rt, file).is_ok() {
+        return true;
+    }
+    match format!(in rt.alloc(); "{file}.2") {
+        Ok(other) => fs::metadata(&rt, other.as_str()).is_ok(),
+        Err(_) => true,
     }
 }
 
@@ -93,6 +146,31 @@ fn tell_fault(rt: HostRuntime, file: &str, fault: Fault) -> u8
         Fault::Write => tell_list_fault(rt, file, ListFault::Write),
         Fault::NoFolder => tell(rt, "", &"the working folder has no name that is UTF-8"),
         Fault::TooMany(names) => tell_too_many(rt, names),
+        Fault::NotRemoved => {}
+    }
+    2
+}
+
+fn tell_no_lock(rt: HostRuntime, file: &str, fault: LockFault) -> u8
+    ensures { result ≡ 2 }
+{
+    match fault {
+        LockFault::OutOfMemory => {
+            tell_list_fault(rt, file, ListFault::Open(OpenFault::OutOfMemory));
+        }
+        LockFault::Taken => tell_of(rt, "", file.as_bytes(), "a run over it goes on"),
+        LockFault::NoLockFile => {
+            tell_of(
+                rt,
+                "",
+                file.as_bytes(),
+                "cannot be locked: its lock file is no empty file",
+            );
+        }
+        LockFault::System(error) => {
+            let text = NotLocked { file, error };
+            tell(rt, "", &text);
+        }
     }
     2
 }
@@ -123,12 +201,33 @@ fn write_answer(
         Question::Why(names) => causes_of(rt, state, names.as_slice())?,
         Question::Database { all } => (database_of(rt, state, *all)?, true),
         Question::Graph(names, extent) => drawing_of(rt, file, state, names.as_slice(), *extent)?,
+        Question::Clean(cleaning) => return write_cleaned(rt, state, cleaning),
     };
+    write_text(rt, text.as_slice())?;
+    Ok(found)
+}
+
+fn write_text(rt: HostRuntime, text: &[u8]) -> Result<(), Fault> {
     let mut out = standard_output(rt);
-    if out.write_all(text.as_slice()).is_err() || out.flush().is_err() {
+    if out.write_all(text).is_err() || out.flush().is_err() {
         return Err(Fault::Write);
     }
-    Ok(found)
+    Ok(())
+}
+
+/// Removes files, and writes what came of it.
+fn write_cleaned(rt: HostRuntime, state: &State, cleaning: &Cleaning) -> Result<bool, Fault> {
+    let Cleaned {
+        text,
+        found,
+        removed,
+    } = clean(rt, state, cleaning)?;
+    write_text(rt, text.as_slice())?;
+    if removed {
+        Ok(found)
+    } else {
+        Err(Fault::NotRemoved)
+    }
 }
 
 /// What the state has of the names, and whether it has all of them. One that it doesn't have is told.

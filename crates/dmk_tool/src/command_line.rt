@@ -1,6 +1,6 @@
 //! The words, as clap reads them.
 
-use crate::request::{Asked, Question, Request, Topic, WordsFault};
+use crate::request::{Asked, Cleaning, Question, Request, Topic, WordsFault};
 use crate::words::{Words, is_text};
 use clap::error::ErrorKind;
 use clap::{Arg, ArgAction, ArgMatches, Command};
@@ -51,11 +51,22 @@ fn program<'a>(alloc: Global) -> Result<Command<'a>, AllocError> {
     let command = Command::new(alloc, "dmk_tool").bin_name("dmk_tool")?;
     let command = command
         .version("0.2.0")
-        .about("Answers questions to the state that dmk keeps of its targets")
+        .about(
+            "Answers questions to the state that dmk keeps of its targets, and removes their files",
+        )
         .after_help(AFTER)
         .subcommand_required(true)
         .arg(state(alloc))?;
     let command = with(command, targets(alloc))?;
+    let command = of_targets(alloc, command)?;
+    let command = with(command, compdb(alloc))?;
+    let command = with(command, list(alloc))?;
+    let command = with(command, graph(alloc))?;
+    with(command, clean(alloc))
+}
+
+// The questions of names.
+fn of_targets<'a>(alloc: Global, command: Command<'a>) -> Result<Command<'a>, AllocError> {
     let command = with(
         command,
         of_names(alloc, "commands", "Prints the recorded commands of targets"),
@@ -76,17 +87,14 @@ fn program<'a>(alloc: Global) -> Result<Command<'a>, AllocError> {
             "Prints what names were made of, and what was made of them",
         ),
     )?;
-    let command = with(
+    with(
         command,
         of_names(
             alloc,
             "why",
             "Prints why targets aren't as they were made, down to the first causes",
         ),
-    )?;
-    let command = with(command, compdb(alloc))?;
-    let command = with(command, list(alloc))?;
-    with(command, graph(alloc))
+    )
 }
 
 // The command with this one of its own, if there was memory for it.
@@ -173,6 +181,32 @@ fn counts_hidden<'a>(alloc: Global) -> Arg<'a> {
         .action(ArgAction::SetTrue)
 }
 
+fn clean<'a>(alloc: Global) -> Result<Command<'a>, AllocError> {
+    let command = Command::new(alloc, "clean")
+        .about("Removes the files of targets that are as they were made")
+        .arg(
+            Arg::new(alloc, "dry-run")
+                .short('n')
+                .long("dry-run")
+                .help("Removes nothing, and tells what would be removed")
+                .action(ArgAction::SetTrue),
+        )?;
+    let command = command.arg(
+        Arg::new(alloc, "outside")
+            .long("outside")
+            .help("Files outside the tree below the working folder too")
+            .action(ArgAction::SetTrue),
+    )?;
+    command.arg(
+        Arg::new(alloc, "TARGET")
+            .long("targets")
+            .value_name("TARGET")
+            .help("Those of these targets alone")
+            .num_args(1..)
+            .action(ArgAction::Append),
+    )
+}
+
 fn of_names<'a>(alloc: Global, name: &'a str, about: &'a str) -> Result<Command<'a>, AllocError> {
     let names = Arg::new(alloc, "TARGET")
         .required(true)
@@ -219,6 +253,7 @@ fn question_of(
             let extent = extent_of(found);
             return Ok(Question::Graph(names_in(alloc, words, found)?, extent));
         }
+        "clean" => return Ok(Question::Clean(cleaning_of(alloc, words, found)?)),
         _ => {
             return Ok(Question::Database {
                 all: found.get_flag("all"),
@@ -226,6 +261,23 @@ fn question_of(
         }
     };
     Ok(Question::Names(topic, names_in(alloc, words, found)?))
+}
+
+fn cleaning_of(
+    alloc: Global,
+    words: &Words,
+    found: &ArgMatches<'_>,
+) -> Result<Cleaning, AllocError> {
+    let names = if found.contains_id("TARGET") {
+        Some(names_in(alloc, words, found)?)
+    } else {
+        None
+    };
+    Ok(Cleaning {
+        names,
+        dry_run: found.get_flag("dry-run"),
+        outside: found.get_flag("outside"),
+    })
 }
 
 fn extent_of(found: &ArgMatches<'_>) -> Extent {

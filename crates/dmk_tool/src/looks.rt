@@ -34,7 +34,7 @@ pub fn looks_at_names<'a>(rt: HostRuntime, names: &'a Names) -> Result<Looks<'a>
 
 /// What is at a name, as a run sees it: links are followed, and no file is there where the system says anything else of it, or the name
 /// is no text.
-fn look_at(rt: HostRuntime, name: &[u8]) -> Mark {
+pub fn look_at(rt: HostRuntime, name: &[u8]) -> Mark {
     let Ok(name) = std::str::from_utf8(name) else {
         return Mark::NoFile;
     };

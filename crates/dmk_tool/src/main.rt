@@ -1,8 +1,9 @@
-//! Answers questions to the state that dmk keeps of its targets.
+//! Answers questions to the state that dmk keeps of its targets, and removes their files.
 #![tactic(auto)]
 
 mod answers;
 mod causes;
+mod cleaning;
 mod command_line;
 mod dot;
 mod drawing;
@@ -10,6 +11,7 @@ mod json;
 mod listing;
 mod looks;
 mod request;
+mod state_lock;
 mod streams;
 mod words;
 

@@ -19,6 +19,19 @@ pub enum Question {
     Database { all: bool },
     /// What is drawn from these names, or from all targets where there are none.
     Graph(Vec<Vec<u8>>, Extent),
+    /// That files of targets are removed.
+    Clean(Cleaning),
+}
+
+/// Which files are removed.
+#[derive(Drop)]
+pub struct Cleaning {
+    /// Those of these targets; of all where there is none.
+    pub names: Option<Vec<Vec<u8>>>,
+    /// Whether it is just told what would be removed.
+    pub dry_run: bool,
+    /// Whether files outside the tree below the working folder are, too.
+    pub outside: bool,
 }
 
 /// What is asked of a name.
