@@ -1,6 +1,6 @@
 mod ArgumentLemmas
 mod CutLemmas
 mod DefineLemmas
-mod LineLemmas
-mod MachineLemmas
+pub mod LineLemmas
+pub mod MachineLemmas
 mod SpellingLemmas

@@ -31,7 +31,7 @@ module _ {W T A I F : Type 0} (after : W → List I → W) (Holds : W → T → 
     turns_once true s w line nest test a b x y = x ∙ sym y
     turns_once false s w line nest test a b x y = turns_to_once s w line nest test a b x y
 
-    steps_once : (w : W) (nest : List Branch) (line : ℕ) (d : Directive T) (a b : Result (List Branch) (Why F)) → Steps after Holds One w nest line d a → Steps after Holds One w nest line d b → a ≡ b
+    pub steps_once : (w : W) (nest : List Branch) (line : ℕ) (d : Directive T) (a b : Result (List Branch) (Why F)) → Steps after Holds One w nest line d a → Steps after Holds One w nest line d b → a ≡ b
     steps_once w nest line (Begins test) a b x y = opens_once (active nest) w line nest test a b x y
     steps_once w [] line (Turns test) a b x y = x ∙ sym y
     steps_once w (one ∷ nest) line (Turns test) a b x y = turns_once one.has_else one.stage w one.line nest test a b x y
@@ -87,7 +87,7 @@ module _ {W T A I F : Type 0} (after : W → List I → W) (Holds : W → T → 
     turns_some true s w line nest test = (Err (misplaced SecondElse), refl)
     turns_some false s w line nest test = turns_to_some s w line nest test
 
-    steps_some : (w : W) (nest : List Branch) (line : ℕ) (d : Directive T) → HasStep w nest line d
+    pub steps_some : (w : W) (nest : List Branch) (line : ℕ) (d : Directive T) → HasStep w nest line d
     steps_some w nest line (Begins test) = opens_some (active nest) w line nest test
     steps_some w [] line (Turns test) = (Err (misplaced ExtraneousElse), refl)
     steps_some w (one ∷ nest) line (Turns test) = turns_some one.has_else one.stage w one.line nest test

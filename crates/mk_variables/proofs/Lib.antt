@@ -1,3 +1,3 @@
 mod ExportLemmas
-mod LawLemmas
+pub mod LawLemmas
 mod TableLemmas
