@@ -1,0 +1,3 @@
+mod LawLemmas
+mod ListedLemmas
+mod ReadingLemmas
