@@ -10,16 +10,16 @@ use dmk_dry::{AlwaysRun, drive};
 use dmk_files::FileTexts;
 use dmk_host::{
     AlwaysLines, HostFiles, HostTrees, IncludeFolders, LineSettings, base_asked, beside_recipes,
-    needs_usual_makefile, print_gnu_makefile, print_notes, print_reasons, tell_definitions,
-    with_locks_told, with_patience,
+    needs_usual_makefile, print_cure, print_gnu_makefile, print_notes, print_reasons,
+    tell_definitions, with_locks_told, with_patience,
 };
-use dmk_messages::{Fault, Message, print_fault};
+use dmk_messages::{Cure, Fault, Message, print_fault};
 use dmk_reading::{Mode, Options, value_of};
 use dmk_words::Later;
 use mk_eval::Includes;
 use mk_rules::Tree;
 use plain_text::write_plain;
-use st_disk::{Disk, FileDisk, SystemFolder};
+use st_disk::{Disk, FileDisk, SystemFolder, Which};
 use st_records::HashKey;
 use std::alloc::{AllocError, Global};
 use std::time::Duration;
@@ -42,6 +42,8 @@ struct Look {
     out: Vec<u8>,
     before: usize,
     err: Vec<u8>,
+    /// What helps against the fault that was told.
+    cure: Option<Cure>,
     /// The lines that are run all the same, once it is told.
     always: Vec<AlwaysRun>,
 }
@@ -53,6 +55,7 @@ impl Drop for Look {
             out: _,
             before: _,
             err: _,
+            cure: _,
             always: _,
         } = self;
     }
@@ -82,6 +85,7 @@ impl Room {
             before: out.len(),
             out,
             err,
+            cure: None,
             always: Vec::new(alloc),
         };
         Ok(Room { folder, look })
@@ -100,6 +104,7 @@ impl Look {
         requires { AsksToLook options (value_in environment.now (codes "MAKEFLAGS")) }
     {
         let is_usual = needs_usual_makefile(&options);
+        let profile = options.profile;
         let Room { folder, mut look } = room;
         let trees = match HostTrees::of(host, &options) {
             Ok(trees) => trees,
@@ -112,6 +117,8 @@ impl Look {
         let tree = trees.tree();
         let disk = FileDisk::new(folder);
         let (is_told, disk) = look.take(host, options, environment, tree, makefiles, disk);
+        let state = disk.folder.name(Which::A);
+        print_cure(host, &mut look.err, profile, state, look.cure);
         print_notes(host.alloc(), &mut look.err, makefiles);
         print_reasons(&mut look.err, makefiles, &disk);
         drop(disk);
@@ -153,6 +160,7 @@ impl Look {
         );
         drop(tree);
         self.status = reply.status;
+        self.cure = reply.cure;
         self.always = always;
         (reply.is_told, disk)
     }

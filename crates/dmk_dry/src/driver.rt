@@ -23,7 +23,7 @@ use crate::always_run::AlwaysRun;
 use crate::passing::Shows;
 use crate::planning::{DryRun, Given, dry_run};
 use bd_lists::Variable;
-use dmk_messages::{Fault, Message, print_fault, print_note, write_text};
+use dmk_messages::{Cure, Fault, Message, print_fault, print_note, write_text};
 use dmk_reading::Options;
 use mk_eval::Includes;
 use mk_rule_lines::{RuleFault, Unmade};
@@ -41,6 +41,8 @@ pub struct Reply {
     pub is_told: bool,
     /// All that was to be printed went out.
     pub is_whole: bool,
+    /// What helps against the fault that was told, where one was.
+    pub cure: Option<Cure>,
 }
 
 /// Says that soft edges are dropped, where they are, and tells whether that was taken.
@@ -101,6 +103,7 @@ fn refuse<E: Write>(state: &str, fault: &Fault, err: &mut E) -> Reply
         status: 2,
         is_told: print_fault(err, message),
         is_whole: false,
+        cure: Cure::of(fault),
     }
 }
 
@@ -140,6 +143,7 @@ fn show<O: Write, E: Write>(
                 status,
                 is_told: is_said,
                 is_whole: true,
+                cure: None,
             };
             (reply, always)
         }
@@ -150,6 +154,7 @@ fn show<O: Write, E: Write>(
                 status: refusal.status,
                 is_told: is_said && refusal.is_told,
                 is_whole: false,
+                cure: refusal.cure,
             };
             (reply, Vec::new(alloc))
         }

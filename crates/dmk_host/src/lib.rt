@@ -32,7 +32,8 @@ pub use include_folders::IncludeFolders;
 pub use memory::keep_blocks;
 pub use pool_path::{PoolPath, reports_path};
 pub use reasons::{
-    needs_usual_makefile, print_gnu_makefile, print_notes, print_other_makefile, print_reasons,
+    needs_usual_makefile, print_cure, print_gnu_makefile, print_notes, print_other_makefile,
+    print_reasons,
 };
 pub use signs::{SignFault, with_signs};
 pub use standard_streams::{

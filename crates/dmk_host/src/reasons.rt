@@ -2,13 +2,14 @@
 
 use crate::host_files::HostFiles;
 use dmk_files::FileTexts;
-use dmk_messages::print_lines;
+use dmk_messages::{Cure, CureMessage, print_lines};
 use dmk_reading::Options;
+use mk_profile::Profile;
 use plain_text::Plain;
 use st_disk::{FailedCallMessage, FileDisk, SystemFolder, Which};
 use std::alloc::Global;
 use std::fs;
-use std::io::Write;
+use std::io::{IsTerminal, Write};
 
 /// Says which makefile couldn't be read, and which call on the state's files failed, if there is one. A line that can't be printed
 /// changes nothing.
@@ -28,6 +29,26 @@ pub fn print_reasons<W: Write>(
         };
         let _ = writeln!(err, "dmk: note: {message}");
     }
+    let _ = err.flush();
+}
+
+/// Says what helps against a fault that was told: in the wide profile, and what that one has in the strict one on a terminal, where nobody's
+/// program reads it. A line that can't be printed changes nothing.
+pub fn print_cure<W: Write>(
+    host: HostRuntime,
+    err: &mut W,
+    profile: Profile,
+    state: &str,
+    cure: Option<Cure>,
+) {
+    let Some(cure) = cure else {
+        return;
+    };
+    if !cure.is_for(profile) || !(profile.is_wide() || host.stderr().is_terminal()) {
+        return;
+    }
+    let message = CureMessage { state, cure };
+    let _ = writeln!(Plain::over(err), "dmk: note: {message}");
     let _ = err.flush();
 }
 

@@ -10,8 +10,8 @@ use bd_flusher::Receipt;
 use bd_lists::{Exec, Variable};
 use dmk_files::{FileTexts, FileTree};
 use dmk_host::{
-    HostFiles, HostTrees, Patient, TrustedPlace, needs_usual_makefile, print_gnu_makefile,
-    print_notes, print_reasons,
+    HostFiles, HostTrees, Patient, TrustedPlace, needs_usual_makefile, print_cure,
+    print_gnu_makefile, print_notes, print_reasons,
 };
 use dmk_printing::{Lending, Printer, followed};
 use dmk_reading::Options;
@@ -25,7 +25,7 @@ use jb_janitor::Janitor;
 use jb_recipe::Place;
 use jb_slots::{FifoBank, FifoBanks};
 use jb_turns::Turns;
-use st_disk::{Disk, FileDisk, SystemFolder};
+use st_disk::{Disk, FileDisk, SystemFolder, Which};
 use st_records::HashKey;
 use std::alloc::{AllocError, Global};
 use std::io::{BufWriter, Stderr, Stdout};
@@ -266,6 +266,7 @@ fn make_with<'a, 'f, R: Threads + Wait + Sync>(
     } = outfit;
     let alloc = host.alloc();
     let is_usual = needs_usual_makefile(&options);
+    let profile = options.profile;
     let mut guard = StateLock::new(host, lock, &before.held);
     let place = HostPlace::new(rt, host, stops, turns, janitor);
     let trusted = TrustedPlace {
@@ -310,7 +311,9 @@ fn make_with<'a, 'f, R: Threads + Wait + Sync>(
     );
     janitor.close();
     pool.release();
+    let cure = printer.cure();
     let (_out, mut err) = printer.into_streams();
+    print_cure(host, &mut err, profile, disk.folder.name(Which::A), cure);
     print_notes(alloc, &mut err, makefiles);
     print_reasons(&mut err, makefiles, &disk);
     print_gnu_makefile(host, &mut err, is_usual && status == 2);

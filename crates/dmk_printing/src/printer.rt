@@ -8,7 +8,7 @@ use crate::queue::Due;
 use crate::streams::Streams;
 use crate::trusted::Trusted;
 use bd_lists::Ended;
-use dmk_messages::{Message, print_fault, print_lines, print_note};
+use dmk_messages::{Cure, Message, print_fault, print_lines, print_note};
 use dmk_status::{Shown, StatusLine, Terminal};
 use jb_closing::RunFault;
 use jb_host::{Hears, Stream};
@@ -186,8 +186,14 @@ impl<'a, R: Wait, O: Write + Drop, E: Write + Drop> Printer<'a, R, O, E> {
     /// One line with a fault that is met before anything is made.
     pub fn fault(&self, message: Message<'_>) {
         let mut streams = self.streams.lock(self.rt);
+        streams.cure = Cure::of(message.fault);
         print_fault(&mut Plain::over(&mut streams.err), message);
         let _ = streams.err.flush();
+    }
+
+    /// What helps against the fault that was met before anything was made.
+    pub fn cure(&self) -> Option<Cure> {
+        self.streams.lock(self.rt).cure
     }
 
     /// One line with a fault that ended a run.

@@ -3,6 +3,7 @@
 use crate::counts::{Counts, write_counts};
 use crate::news::{is_failure, write_failure, write_fault, write_goal, write_news};
 use bd_lists::Ended;
+use dmk_messages::Cure;
 use dmk_status::{Progress, StatusLine, write_end};
 use jb_recipe::{News, Step};
 use mk_names::Names;
@@ -39,6 +40,8 @@ pub(crate) struct Streams<O: Write + Drop, E: Write + Drop> {
     told_unused: bool,
     /// The names of which it was told that nothing makes them.
     unmade: Names,
+    /// What helps against the fault that was told last.
+    pub(crate) cure: Option<Cure>,
 }
 
 impl<O: Write + Drop, E: Write + Drop> Drop for Streams<O, E> {
@@ -60,6 +63,7 @@ impl<O: Write + Drop, E: Write + Drop> Drop for Streams<O, E> {
             told_unreported: _,
             told_unused: _,
             unmade: _,
+            cure: _,
         } = self;
     }
 }
@@ -127,6 +131,7 @@ impl<O: Write + Drop, E: Write + Drop> Streams<O, E> {
             told_unreported: false,
             told_unused: false,
             unmade: Names::new(alloc),
+            cure: None,
         }
     }
 
@@ -149,6 +154,7 @@ impl<O: Write + Drop, E: Write + Drop> Streams<O, E> {
             told_unreported: _,
             told_unused: _,
             unmade: _,
+            cure: _,
         } = self;
         (out, err)
     }
