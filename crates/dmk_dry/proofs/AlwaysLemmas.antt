@@ -2,7 +2,7 @@
 use Rattle.std.proofs.Common.{◌≡◌, ◌+◌, ◌∙◌, ℕ, Bool, List, [], ◌∷◌, ◌++◌, length, refl, sym, ap, arith, append_assoc, append-nil, length-append}
 use Rattle.std.specs.List.{flat_map}
 use Rattle.mk_names.specs.Names.{name_at}
-use Rattle.mk_plan.specs.Passage.{Passage, to_make, commands_of}
+use Rattle.mk_plan.specs.Passage.{Passage, to_make}
 use Rattle.mk_plan.specs.Passing.{told_in}
 use Rattle.mk_plan.specs.Telling.{lines_about}
 use Rattle.mk_plan.specs.declared.passing.Passed.{Passed}
@@ -38,7 +38,7 @@ pub passed_always : (telling : Telling) (recipes : Bool) (place : ℕ) (graph : 
 unfolding always_from
 passed_always telling recipes place graph n (passed.Listed why lines) =
     let target : List ℕ = name_at graph.names n in
-    let told : List (List ℕ) = lines_about telling (to_make target why (commands_of graph n) lines.items) in
+    let told : List (List ℕ) = lines_about telling (to_make target why lines.items) in
     ap (λ ls. always_in recipes target (place + length (text_of ls)) lines.items) (append-nil told)
     ∙ sym (append-nil (always_in recipes target (place + length (text_of told)) lines.items))
 passed_always telling recipes place graph n passed.Remade = refl

@@ -11,7 +11,7 @@ use Rattle.mk_plan.specs.declared.fault.RecipeFault.{RecipeFault}
 use Rattle.mk_plan.specs.declared.fault.RecipeFault.TheVariants as fault
 use Rattle.mk_nodes.specs.declared.graph.Graph.{Graph}
 use Rattle.mk_names.specs.Names.{name_at}
-use Rattle.mk_plan.specs.Passage.{Passage, to_make, finished, is_listed, commands_of}
+use Rattle.mk_plan.specs.Passage.{Passage, to_make, finished, is_listed}
 use Rattle.mk_plan.specs.Passing.{Passes, is_to_be_run, is_up_to_date, has_no_recipe, is_left, IsFaultAt, told_in}
 use Rattle.mk_plan.specs.Telling.{lines_about}
 use Rattle.mk_verdict.specs.declared.verdict.Reason.TheVariants.{NoEntry}
@@ -74,7 +74,7 @@ text_more telling recipes listed front = flat_map-append (passage_text telling r
 pub passed_text : (telling : Telling) (recipes : Bool) (graph : Graph) (n : ℕ) (p : Passed) →
     text_of (flat_map (lines_about telling) (told_in graph n p)) ++ recipe_in recipes p ≡ listing_text telling recipes (told_in graph n p)
 passed_text telling true graph n (passed.Listed why lines) =
-    let told : List (List ℕ) = lines_about telling (to_make (name_at graph.names n) why (commands_of graph n) lines.items) in
+    let told : List (List ℕ) = lines_about telling (to_make (name_at graph.names n) why lines.items) in
     ap (λ ls. text_of ls ++ printed lines.items) (append-nil told) ∙ sym (append-nil (text_of told ++ printed lines.items))
 passed_text telling true graph n passed.Remade = refl
 passed_text telling true graph n passed.UpToDate =
@@ -82,7 +82,7 @@ passed_text telling true graph n passed.UpToDate =
     ap (λ ls. text_of ls ++ []) (append-nil told) ∙ sym (append-nil (text_of told ++ []))
 passed_text telling true graph n passed.Left = refl
 passed_text telling false graph n (passed.Listed why lines) =
-    let told : List (List ℕ) = lines_about telling (to_make (name_at graph.names n) why (commands_of graph n) lines.items) in
+    let told : List (List ℕ) = lines_about telling (to_make (name_at graph.names n) why lines.items) in
     ap (λ ls. text_of ls ++ []) (append-nil told) ∙ sym (append-nil (text_of told ++ []))
 passed_text telling false graph n passed.Remade = refl
 passed_text telling false graph n passed.UpToDate =

@@ -32,8 +32,8 @@ always_in false target place lines = flat_map (always_at target place) lines
 
 -- those of a target that is listed, behind what is told of it
 abbrev pub always_of : Telling → (recipes : Bool) (place : ℕ) → Passage → List AlwaysRun
-always_of telling recipes place (to_make target why commands lines) =
-    always_in recipes target (place + length (text_of (lines_about telling (to_make target why commands lines)))) lines
+always_of telling recipes place (to_make target why lines) =
+    always_in recipes target (place + length (text_of (lines_about telling (to_make target why lines)))) lines
 always_of telling recipes place (finished target) = []
 
 -- those of a node that was passed

@@ -43,7 +43,7 @@ text_of lines = flat_map (λ line. line ++ 10 ∷ []) lines
 
 -- the recipe of a listed target, where recipes are printed
 abbrev pub recipe_text : (recipes : Bool) → Passage → List ℕ
-recipe_text true (to_make target why commands lines) = printed lines
+recipe_text true (to_make target why lines) = printed lines
 recipe_text true (finished target) = []
 recipe_text false passage = []
 

@@ -7,7 +7,7 @@ use Rattle.mk_nodes.specs.declared.graph.Graph.{Graph}
 use Rattle.mk_rule_lines.specs.declared.fault.TextFault.{TextFault}
 use Rattle.mk_recipe.specs.Line.{Records}
 use Rattle.mk_recipe.specs.declared.line.Line.{Line}
-use Rattle.mk_plan.specs.Passage.{Passage, to_make, commands_of, is_listed}
+use Rattle.mk_plan.specs.Passage.{Passage, to_make, is_listed}
 use Rattle.mk_plan.specs.Passing.{Passes, IsFaultAt, is_remade, told_in}
 use Rattle.mk_plan.specs.declared.passing.Passed.{Passed}
 use Rattle.mk_plan.specs.declared.fault.RecipeFault.{RecipeFault}
@@ -90,12 +90,12 @@ found_made (inr (f, is)) = is_faulty f is
 
 pub found_taken : {form : Form} {graph : Graph} {marks : List Bool} {n : ℕ} {note : Record} (why : Why) (lines : List Line) → ((told : List Passage) × Passes false graph marks n false told) →
     ((commands : List (List ℕ)) × Records lines commands × IsDoneOf form graph n commands note) → IsGoodIn form note →
-    Passes true graph marks n true (to_make (name_at graph.names n) why (commands_of graph n) lines ∷ []) → Takes form graph marks n false (Some note)
+    Passes true graph marks n true (to_make (name_at graph.names n) why lines ∷ []) → Takes form graph marks n false (Some note)
 found_taken {form} {graph} {marks} {n} why lines (told, let_be) (commands, records, is) good listed =
     is_taken told why lines commands _ let_be listed records is good
 
 pub found_bad : {form : Form} {graph : Graph} {marks : List Bool} {n : ℕ} {note : Record} (why : Why) (lines : List Line) → ((told : List Passage) × Passes false graph marks n false told) →
     ((commands : List (List ℕ)) × Records lines commands × IsDoneOf form graph n commands note) → (IsGoodIn form note → ⊥) →
-    Passes true graph marks n true (to_make (name_at graph.names n) why (commands_of graph n) lines ∷ []) → Takes form graph marks n true None
+    Passes true graph marks n true (to_make (name_at graph.names n) why lines ∷ []) → Takes form graph marks n true None
 found_bad {form} {graph} {marks} {n} why lines (told, let_be) (commands, records, is) bad listed =
     cannot_be_recorded told why lines commands _ let_be listed records is bad

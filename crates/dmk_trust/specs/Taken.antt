@@ -7,7 +7,7 @@ use Rattle.mk_recipe.specs.Line.{Records}
 use Rattle.mk_recipe.specs.declared.line.Line.{Line}
 use Rattle.mk_nodes.specs.declared.graph.Graph.{Graph}
 use Rattle.mk_plan.specs.Nodes.{explicit_of}
-use Rattle.mk_plan.specs.Passage.{Passage, to_make, commands_of}
+use Rattle.mk_plan.specs.Passage.{Passage, to_make}
 use Rattle.mk_plan.specs.Passing.{Passes, PassesUnlisted, IsFaultAt}
 use Rattle.mk_plan.specs.declared.fault.RecipeFault.TheVariants as fault
 use Rattle.mk_plan.specs.declared.why.Why.{Why}
@@ -31,12 +31,12 @@ pub data Takes (form : Form) (graph : Graph) (marks : List Bool) (n : ℕ) : (re
   -- by the times of files alone it isn't to be made, and the record has the commands with which it would be
   is_taken : (told : List Passage) (why : Why) (lines : List Line) (commands : List (List ℕ)) (note : Record) →
       Passes false graph marks n false told →
-      Passes true graph marks n true (to_make (name_at graph.names n) why (commands_of graph n) lines ∷ []) →
+      Passes true graph marks n true (to_make (name_at graph.names n) why lines ∷ []) →
       Records lines commands → IsDoneOf form graph n commands note → IsGoodIn form note → Takes form graph marks n false (Some note)
   -- so it is, but that record may not stand in a state
   cannot_be_recorded : (told : List Passage) (why : Why) (lines : List Line) (commands : List (List ℕ)) (note : Record) →
       Passes false graph marks n false told →
-      Passes true graph marks n true (to_make (name_at graph.names n) why (commands_of graph n) lines ∷ []) →
+      Passes true graph marks n true (to_make (name_at graph.names n) why lines ∷ []) →
       Records lines commands → IsDoneOf form graph n commands note → (IsGoodIn form note → ⊥) → Takes form graph marks n true None
   -- it is to be made by the times of files too
   is_made : (told : List Passage) → Passes false graph marks n true told → Takes form graph marks n true None

@@ -4,7 +4,7 @@ ghost use Rattle.std.specs.List.{list_all};
 ghost use Rattle.mk_rule_lines.specs.declared.fault.TextFault.{TextFault as ExpansionFault};
 ghost use Rattle.mk_recipe.specs.Line.{Records};
 ghost use Rattle.mk_names.specs.Names.{name_at};
-ghost use Rattle.mk_plan.specs.Passage.{Passage, to_make, commands_of};
+ghost use Rattle.mk_plan.specs.Passage.{Passage, to_make};
 ghost use Rattle.mk_plan.specs.Passing.{Passes, IsFaultAt, is_remade, told_in};
 ghost use Rattle.mk_plan.specs.declared.fault.RecipeFault.TheVariants as faults;
 ghost use Rattle.mk_plan.specs.declared.why.Why.{Why as Cause};
@@ -106,7 +106,7 @@ fn found_left(
 ) -> Result<Found, AllocError>
     requires { node < length graph.now.nodes.items }
     ensures { IfOk result (λ found. (marks : List Bool) (why : Cause) → ((told : List Passage) × Passes false graph.now marks node false told)
-        → Passes true graph.now marks node true (to_make (name_at graph.now.names node) why (commands_of graph.now node) lines.now ∷ [])
+        → Passes true graph.now marks node true (to_make (name_at graph.now.names node) why lines.now ∷ [])
         → Takes form graph.now marks node found.is_remade found.note) }
 {
     let note = done_with(alloc, form, graph, node, lines)?;
@@ -133,7 +133,7 @@ fn found_of(
 ) -> Result<Found, AllocError>
     requires { node < length graph.now.nodes.items }
     ensures { IfOk result (λ found. (why : Cause)
-        → Passes true graph.now marks.now node true (to_make (name_at graph.now.names node) why (commands_of graph.now node) lines.now ∷ [])
+        → Passes true graph.now marks.now node true (to_make (name_at graph.now.names node) why lines.now ∷ [])
         → Takes form graph.now marks.now node found.is_remade found.note) }
 {
     let left = is_let_be(alloc, graph, marks, node)?;

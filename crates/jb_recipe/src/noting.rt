@@ -7,7 +7,7 @@ ghost use Rattle.mk_settings.specs.Marks.{has_mark};
 ghost use Rattle.mk_seen.specs.Marks.{source_name};
 ghost use Rattle.mk_seen.specs.Nodes.{explicit_of, made_beside};
 ghost use Rattle.mk_plan.specs.Parts.{language_of};
-ghost use Rattle.mk_plan.specs.Passage.{to_make, commands_of};
+ghost use Rattle.mk_plan.specs.Passage.{to_make};
 ghost use Rattle.mk_plan.specs.Telling.{lines_about};
 ghost use Rattle.st_records.specs.Limits.{IsGoodIn, IsWithinIn, SaysExplicitIn};
 ghost use Rattle.st_records.specs.Parts.{status_of};
@@ -202,7 +202,7 @@ impl Plan {
         requires { number < length graph.now.nodes.items }
         ensures form { IfOk result (λ plan. IfSome plan (λ p. p.form ≡ conduct.now.form)) }
         ensures told { IfOk result (λ plan. IfSome plan (λ p. p.told ≡ lines_about conduct.now.telling
-            (to_make (name_at graph.now.names number) why.now (commands_of graph.now number) lines.items))) }
+            (to_make (name_at graph.now.names number) why.now lines.items))) }
         ensures target { IfOk result (λ plan. IfSome plan (λ p. p.recipe.target ≡ name_at graph.now.names number)) }
         ensures lines { IfOk result (λ plan. IfSome plan (λ p. p.recipe.lines.items
             ≡ as_run (conduct.now.prints_no_lines || has_mark graph.now.settings.silent (name_at graph.now.names number)) lines.items)) }
@@ -223,7 +223,7 @@ impl Plan {
             ≡ conduct.now.ignores_statuses || has_mark graph.now.settings.ignored (name_at graph.now.names number))) }
         ensures removes { IfOk result (λ plan. IfSome plan (λ p. p.removes ≡ removes graph.now number)) }
     {
-        let told = why_lines(alloc, conduct.telling, graph, number, why, &lines)?;
+        let told = why_lines(alloc, conduct.telling, graph, number, why)?;
         let noted = Noted::of(alloc, graph, number, &lines)?;
         let form = conduct.form;
         let Some(begun) = noted.begun(alloc, form)? else {

@@ -15,6 +15,7 @@ use Rattle.mk_verdict.specs.Verdict.{IsLater, IsFirstReason, IsOutOfDate}
 use Rattle.mk_verdict.specs.declared.mark.Look.{Look}
 use Rattle.mk_verdict.specs.declared.mark.Mark.{Mark}
 use Rattle.mk_verdict.specs.declared.verdict.Reason.{Reason}
+use Rattle.mk_verdict.specs.declared.verdict.Reason.TheVariants as reason
 use Rattle.mk_verdict.specs.declared.verdict.Target.{Target}
 use Rattle.mk_profile.specs.Profile.{is_wide}
 use Rattle.mk_profile.specs.declared.profile.Profile.{Profile}
@@ -34,7 +35,8 @@ use Rattle.mk_plan.specs.PartWords.{once_in, written_in, hard_in}
 use Rattle.mk_plan.specs.Parts.{language_of, is_part}
 use Rattle.mk_plan.specs.Recipe.{AreExpanded, AreNames, AreLinesIn, AreLinesOf}
 use Rattle.mk_plan.specs.Target.{IsTargetOf}
-use Rattle.mk_plan.specs.Passage.{Passage, to_make, finished, commands_of}
+use Rattle.mk_plan.specs.Change.{change_of, changed_commands, changed_names, commands_of}
+use Rattle.mk_plan.specs.Passage.{Passage, to_make, finished}
 use Rattle.mk_plan.specs.Passing.{Passes, is_to_be_run, is_up_to_date, has_no_recipe, is_left}
 use Rattle.mk_plan.specs.Words.{in_wide, implied_names, written_of, order_only_words}
 use Rattle.mk_plan.specs.Why.{IsWhy, judged_names, words_by, gone_number}
@@ -195,19 +197,32 @@ module _ (a b : Graph) (same : AreAlike a b) (marks : List Bool) (n : ℕ) where
   words_in_both target reason None = refl
   words_in_both target reason (Some number) = ap (λ ns. codes "gone: " ++ encode_utf8_all (lossy_chars (name_at ns number))) names_in_both
 
+  commands_in_both : commands_of a n ≡ commands_of b n
+  commands_in_both = ap (λ e. option_map_or (λ (entry : Entry). entry.commands) e []) (same.entry n)
+
+  change_in_both : (target : Target) (r : Reason) → change_of a n target r ≡ change_of b n target r
+  change_in_both target reason.NoEntry = refl
+  change_in_both target reason.WasBegun = refl
+  change_in_both target reason.WasFailed = refl
+  change_in_both target reason.CommandsChanged = ap (λ was. changed_commands was target.commands.now) commands_in_both
+  change_in_both target reason.PrerequisitesChanged =
+      ap (λ ns. changed_names ns (entry_of a n)) same_once ∙ ap (changed_names (once_of b n)) (same.entry n)
+  change_in_both target reason.Absent = refl
+  change_in_both target reason.TargetChanged = refl
+  change_in_both target (reason.Newer i) = refl
+  change_in_both target (reason.Changed i) = refl
+  change_in_both target (reason.HiddenGone i) = refl
+  change_in_both target (reason.Remade i) = refl
+
   why_in : (keeping : Bool) (target : Target) (why : Why) → IsWhy keeping a n target why → IsWhy keeping b n target why
   why_in keeping target why is = record {
     first = subst (λ e. IsFirstReason keeping e target why.reason) (same.entry n) is.first;
     words = is.words ∙ words_in_both target why.reason (gone_number target.prerequisites.now why.reason);
+    change = is.change ∙ change_in_both target why.reason;
   }
 
-  commands_in_both : commands_of a n ≡ commands_of b n
-  commands_in_both = ap (λ e. option_map_or (λ (entry : Entry). entry.commands) e []) (same.entry n)
-
-  told_in_both : (why : Why) (lines : List Line) →
-      to_make (name_at a.names n) why (commands_of a n) lines ≡ to_make (name_at b.names n) why (commands_of b n) lines
-  told_in_both why lines =
-      ap (λ ns. to_make (name_at ns n) why (commands_of a n) lines) same.names ∙ ap (λ cs. to_make (name_at b.names n) why cs lines) commands_in_both
+  told_in_both : (why : Why) (lines : List Line) → to_make (name_at a.names n) why lines ≡ to_make (name_at b.names n) why lines
+  told_in_both why lines = ap (λ ns. to_make (name_at ns n) why lines) same.names
 
 -- a node is passed in the one as in the other
 pub passes_in : (a b : Graph) → AreAlike a b → (keeping : Bool) (marks : List Bool) (n : ℕ) (remade : Bool) (told : List Passage) →

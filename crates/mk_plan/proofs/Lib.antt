@@ -1,3 +1,4 @@
+pub mod ChangeLemmas
 pub mod KnownLemmas
 pub mod NodeLemmas
 pub mod RecipeLemmas
@@ -10,6 +11,5 @@ pub mod SimpleLemmas
 pub mod SeenLemmas
 pub mod AlikeLemmas
 pub mod OneNodeLemmas
-pub mod TellingLemmas
 pub mod ExplicitWordLemmas
 pub mod WordLemmas

@@ -12,7 +12,7 @@ use Rattle.mk_nodes.specs.declared.graph.Graph.{Graph}
 use Rattle.st_records.specs.declared.record.Entry.{Entry}
 use Rattle.mk_seen.specs.Nodes.{entry_of}
 use Rattle.mk_plan.specs.Parts.{language_of, parts_of, recipe_line, recipe_of}
-use Rattle.mk_plan.specs.Passage.{to_make, finished, commands_of}
+use Rattle.mk_plan.specs.Passage.{to_make, finished}
 use Rattle.mk_plan.specs.Tests.{ends_remade}
 use Rattle.mk_plan.specs.Recipe.{AreLinesOf}
 use Rattle.mk_plan.specs.Target.{IsTargetOf}
@@ -53,7 +53,7 @@ passed_over keeping graph marks n recipe lines read judged none has are same (ta
 pub passed_listed : (keeping : Bool) (graph : Graph) (marks : List Bool) (n : ℕ) (recipe : List RuleLine) (lines read : List Line) (judged : Option Why) (why : Why) →
     judged ≡ Some why → recipe_of graph n ≡ Some recipe → AreLinesOf graph marks n recipe lines → read ≡ lines →
     ((target : Target) × (IsTargetOf graph marks n read target × IsJudgedSo keeping graph n target judged)) →
-    Passes keeping graph marks n true (to_make (name_at graph.names n) why (commands_of graph n) lines ∷ [])
+    Passes keeping graph marks n true (to_make (name_at graph.names n) why lines ∷ [])
 passed_listed keeping graph marks n recipe lines read judged why some has are same (target, (is, holds)) =
     is_to_be_run recipe lines target why has are (subst (λ ls. IsTargetOf graph marks n ls target) same is)
     (subst (IsJudgedSo keeping graph n target) some holds)

@@ -36,7 +36,9 @@ use Rattle.mk_plan.specs.PartWords.{hard_in}
 use Rattle.mk_plan.specs.Parts.{recipe_of}
 use Rattle.mk_plan.specs.Recipe.{IsExpandedLine, AreExpanded, AreNames, recipe_meaning, AreLinesIn, AreLinesOf}
 use Rattle.mk_plan.specs.Target.{IsTargetOf}
-use Rattle.mk_plan.specs.Passage.{Passage, to_make, commands_of}
+use Rattle.mk_plan.specs.Change.{change_of, changed_commands, changed_file, changed_files, changed_prerequisite, commands_of, no_change}
+use Rattle.mk_plan.specs.declared.change.Change.{Change}
+use Rattle.mk_plan.specs.Passage.{Passage, to_make}
 use Rattle.mk_plan.specs.Passing.{Passes, is_to_be_run, is_up_to_date, has_no_recipe, is_left}
 use Rattle.mk_plan.specs.Why.{IsWhy, is_none_left, words_by, words_of}
 use Rattle.mk_plan.specs.declared.why.Why.{Why}
@@ -220,14 +222,31 @@ left_alike ps qs i same =
     ∙ ap shown_left (sym (slice_get-map shown ps i) ∙ ap (λ xs. slice_get xs i) same ∙ slice_get-map shown qs i)
     ∙ sym (left_by_shown (slice_get qs i))
 
+abbrev shown_change : Option Seen → Change
+shown_change None = no_change
+shown_change (Some s) = changed_file s.mark s.look
+
+change_by_shown : (p : Option Prerequisite) → changed_prerequisite p ≡ shown_change (option_map shown p)
+change_by_shown None = refl
+change_by_shown (Some p) = refl
+
+file_alike : (ps qs : List Prerequisite) (i : ℕ) → map shown ps ≡ map shown qs → changed_prerequisite (slice_get ps i) ≡ changed_prerequisite (slice_get qs i)
+file_alike ps qs i same =
+    change_by_shown (slice_get ps i)
+    ∙ ap shown_change (sym (slice_get-map shown ps i) ∙ ap (λ xs. slice_get xs i) same ∙ slice_get-map shown qs i)
+    ∙ sym (change_by_shown (slice_get qs i))
+
 same_out_of_date : (r s : Reason) → OutOfDate r ≡ OutOfDate s → r ≡ s
 same_out_of_date r s same = cc
 
-same_why : (v w : Why) → v.reason ≡ w.reason → v.words ≡ w.words → v ≡ w
-same_why v w reasons words =
+same_why : (v w : Why) → v.reason ≡ w.reason → v.words ≡ w.words → v.change ≡ w.change → v ≡ w
+same_why v w reasons words changes =
     let first : v ≡ record v { reason = w.reason } = ap (λ r. record v { reason = r }) reasons in
-    let second : record v { reason = w.reason } ≡ w = ap (λ ws. record v { reason = w.reason; words = ws }) words in
-    first ∙ second
+    let second : record v { reason = w.reason } ≡ record v { reason = w.reason; words = w.words } =
+    ap (λ ws. record v { reason = w.reason; words = ws }) words in
+    let third : record v { reason = w.reason; words = w.words } ≡ w =
+    ap (λ c. record v { reason = w.reason; words = w.words; change = c }) changes in
+    first ∙ second ∙ third
 
 -- ---- one reason
 
@@ -280,12 +299,26 @@ module _ (keeping : Bool) (graph : Graph) (marks : List Bool) (n : ℕ) (lines :
   words_alike (reason.Remade i) =
       ap (λ name. codes "remade: " ++ encode_utf8_all (lossy_chars name)) (name_alike a.prerequisites.now b.prerequisites.now i prerequisites)
 
+  change_alike : (r : Reason) → change_of graph n a r ≡ change_of graph n b r
+  change_alike reason.NoEntry = refl
+  change_alike reason.WasBegun = refl
+  change_alike reason.WasFailed = refl
+  change_alike reason.CommandsChanged = ap (changed_commands (commands_of graph n)) commands
+  change_alike reason.PrerequisitesChanged = refl
+  change_alike reason.Absent = refl
+  change_alike reason.TargetChanged = ap changed_files (of_a.files ∙ sym of_b.files)
+  change_alike (reason.Newer i) = refl
+  change_alike (reason.Changed i) = file_alike a.prerequisites.now b.prerequisites.now i prerequisites
+  change_alike (reason.HiddenGone i) = refl
+  change_alike (reason.Remade i) = refl
+
   why_alike : (v w : Why) → IsWhy keeping graph n a v → IsWhy keeping graph n b w → v ≡ w
   why_alike v w is_v is_w =
       let reasons : v.reason ≡ w.reason =
       same_out_of_date v.reason w.reason
       (same_verdict keeping (entry_of graph n) b (OutOfDate v.reason) (OutOfDate w.reason) (first_alike v.reason is_v.first) is_w.first) in
       same_why v w reasons (is_v.words ∙ words_alike v.reason ∙ ap (words_of graph n b) reasons ∙ sym is_w.words)
+      (is_v.change ∙ change_alike v.reason ∙ ap (change_of graph n b) reasons ∙ sym is_w.change)
 
 -- ---- one way to pass it
 
@@ -300,11 +333,11 @@ module _ (keeping : Bool) (graph : Graph) (marks : List Bool) (n : ℕ) where
 
   same_listed : (a b : List Line) (t u : Target) (v w : Why) → a ≡ b → IsTargetOf graph marks n a t → IsTargetOf graph marks n b u →
       IsWhy keeping graph n t v → IsWhy keeping graph n u w →
-      to_make (name_at graph.names n) v (commands_of graph n) a ∷ [] ≡ to_make (name_at graph.names n) w (commands_of graph n) b ∷ []
+      to_make (name_at graph.names n) v a ∷ [] ≡ to_make (name_at graph.names n) w b ∷ []
   same_listed a b t u v w same is_t is_u is_v is_w =
       let whys : v ≡ w = why_alike keeping graph marks n b t u (subst (λ ls. IsTargetOf graph marks n ls t) same is_t) is_u v w is_v is_w in
-      ap (λ ls. to_make (name_at graph.names n) v (commands_of graph n) ls ∷ []) same
-      ∙ ap (λ why. to_make (name_at graph.names n) why (commands_of graph n) b ∷ []) whys
+      ap (λ ls. to_make (name_at graph.names n) v ls ∷ []) same
+      ∙ ap (λ why. to_make (name_at graph.names n) why b ∷ []) whys
 
   not_both : (r s : List RuleLine) (a b : List Line) (t u : Target) (v : Why) → recipe_of graph n ≡ Some r → recipe_of graph n ≡ Some s →
       AreLinesOf graph marks n r a → AreLinesOf graph marks n s b → IsTargetOf graph marks n a t → IsTargetOf graph marks n b u →

@@ -1,3 +1,4 @@
+pub mod Change
 pub mod ExplicitWords
 pub mod Finished
 pub mod Known

@@ -11,7 +11,7 @@ use Rattle.mk_nodes.specs.declared.graph.Graph.{Graph}
 use Rattle.mk_seen.specs.Nodes.{entry_of}
 use Rattle.mk_plan.specs.Nodes.{EndsRemade}
 use Rattle.mk_plan.specs.Parts.{recipe_of}
-use Rattle.mk_plan.specs.Passage.{Passage, to_make, finished, is_listed, commands_of}
+use Rattle.mk_plan.specs.Passage.{Passage, to_make, finished, is_listed}
 use Rattle.mk_plan.specs.Recipe.{AreLinesOf, IsFaultOf}
 use Rattle.mk_plan.specs.Target.{IsTargetOf}
 use Rattle.mk_plan.specs.Why.{IsWhy}
@@ -28,7 +28,7 @@ pub data Passes (keeping : Bool) (graph : Graph) (marks : List Bool) (n : ℕ) :
   is_to_be_run : (recipe : List RuleLine) (lines : List Line) (target : Target) (why : Why) →
       recipe_of graph n ≡ Some recipe → AreLinesOf graph marks n recipe lines → IsTargetOf graph marks n lines target →
       IsWhy keeping graph n target why →
-      Passes keeping graph marks n true (to_make (name_at graph.names n) why (commands_of graph n) lines ∷ [])
+      Passes keeping graph marks n true (to_make (name_at graph.names n) why lines ∷ [])
   is_up_to_date : (recipe : List RuleLine) (lines : List Line) (target : Target) →
       recipe_of graph n ≡ Some recipe → AreLinesOf graph marks n recipe lines → IsTargetOf graph marks n lines target →
       (IsOutOfDate keeping (entry_of graph n) target → ⊥) → Passes keeping graph marks n false (finished (name_at graph.names n) ∷ [])
@@ -48,7 +48,7 @@ is_remade passed.UpToDate = false
 is_remade passed.Left = false
 
 abbrev pub told_in : Graph → (n : ℕ) → Passed → List Passage
-told_in graph n (passed.Listed why lines) = to_make (name_at graph.names n) why (commands_of graph n) lines.items ∷ []
+told_in graph n (passed.Listed why lines) = to_make (name_at graph.names n) why lines.items ∷ []
 told_in graph n passed.Remade = []
 told_in graph n passed.UpToDate = finished (name_at graph.names n) ∷ []
 told_in graph n passed.Left = []

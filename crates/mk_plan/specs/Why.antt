@@ -12,6 +12,7 @@ use Rattle.mk_verdict.specs.declared.verdict.Reason.TheVariants.{Changed, Hidden
 use Rattle.mk_nodes.specs.Prerequisites.{distinct, hidden_in}
 use Rattle.mk_nodes.specs.declared.graph.Graph.{Graph}
 use Rattle.mk_seen.specs.Nodes.{entry_of}
+use Rattle.mk_plan.specs.Change.{change_of}
 use Rattle.mk_plan.specs.declared.why.Why.{Why}
 
 -- the names of the prerequisites of node n as they are judged: the hard ones, then the hidden ones, gone or not
@@ -41,10 +42,11 @@ words_by graph n target reason None = words_for target.prerequisites.now reason
 abbrev pub words_of : Graph → (n : ℕ) → Target → Reason → List ℕ
 words_of graph n target reason = words_by graph n target reason (gone_number target.prerequisites.now reason)
 
--- this is why node n is out of date, which is judged as this target: the first reason that holds, and its words
+-- this is why node n is out of date, which is judged as this target: the first reason that holds, its words, and what has changed
 pub record IsWhy (keeping : Bool) (graph : Graph) (n : ℕ) (target : Target) (why : Why) : Type 0 where
   pub first : IsFirstReason keeping (entry_of graph n) target why.reason
   pub words : why.words ≡ words_of graph n target why.reason
+  pub change : why.change ≡ change_of graph n target why.reason
 
 -- it is out of date, and this is why; or it isn't
 abbrev pub IsJudgedSo : (keeping : Bool) → Graph → (n : ℕ) → Target → Option Why → Type 0

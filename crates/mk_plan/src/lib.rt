@@ -2,6 +2,7 @@
 //! ask it alike.
 #![tactic(auto)]
 
+mod change;
 mod explicit_words;
 mod fault;
 mod finished;

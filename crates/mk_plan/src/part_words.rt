@@ -32,7 +32,8 @@ impl Drop for OwnNames {
     }
 }
 
-fn once_of(alloc: Global, written: &ByteStrings) -> Result<Names, AllocError>
+/// These names, each once.
+pub fn once_of(alloc: Global, written: &ByteStrings) -> Result<Names, AllocError>
     ensures { IfOk result (λ once. once ≡ distinct written.now) }
 {
     let mut once = Names::new(alloc);

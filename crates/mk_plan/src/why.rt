@@ -7,6 +7,7 @@ ghost use Rattle.mk_verdict.specs.Told.{words_for};
 ghost use Rattle.mk_seen.specs.Nodes.{entry_of};
 ghost use Rattle.mk_plan.specs.Why.{IsJudgedSo, gone_number, gone_words, is_none_left, judged_names, words_of};
 
+use crate::change::{Change, change_of};
 use byte_strings::ByteString;
 use mk_names::Names;
 use mk_nodes::Graph;
@@ -19,6 +20,8 @@ pub struct Why {
     pub reason: Reason,
     /// The reason in a user's words.
     pub words: ByteString,
+    /// What it speaks of.
+    pub change: Change,
 }
 
 impl Drop for Why {
@@ -26,6 +29,7 @@ impl Drop for Why {
         let Why {
             reason: _,
             words: _,
+            change: _,
         } = self;
     }
 }
@@ -164,7 +168,12 @@ pub fn why_of(
         Verdict::UpToDate => Ok(None),
         Verdict::OutOfDate(reason) => {
             let words = words_of(alloc, graph, node, target, reason)?;
-            Ok(Some(Why { reason, words }))
+            let change = change_of(alloc, graph, node, target, reason)?;
+            Ok(Some(Why {
+                reason,
+                words,
+                change,
+            }))
         }
     }
 }
