@@ -43,6 +43,7 @@ if [ "$failed" -eq 0 ]; then
     run_part python3 scripts/random_words.py
     run_part python3 scripts/random_expansions.py
     run_part python3 scripts/random_tables.py
+    run_part python3 scripts/random_readings.py
     run_part python3 scripts/random_depfiles.py
     run_part python3 scripts/random_makefiles.py
     run_part python3 scripts/random_wide_makefiles.py

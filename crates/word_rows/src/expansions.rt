@@ -13,6 +13,8 @@ use std::alloc::{AllocError, Global};
 pub(crate) struct Setting {
     pub(crate) table: Table,
     pub(crate) outside: Told,
+    /// The recipes of the text that was read last, each line with a newline.
+    pub(crate) recipes: Vec<u8>,
 }
 
 /// What stands behind the first word of a line.
@@ -50,6 +52,7 @@ impl Setting {
                 answers: Vec::new(alloc),
                 said: String::new(alloc),
             },
+            recipes: Vec::new(alloc),
         }
     }
 

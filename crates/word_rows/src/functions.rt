@@ -131,6 +131,7 @@ impl Functions {
             "variables" => say_statement(text, out),
             "statements" => say_statements(alloc, text, out),
             "take" => self.setting.say_taken(alloc, text, b"", out),
+            "read" => self.setting.say_read(alloc, text, out),
             "argument" => self.setting.say_given(alloc, text, out),
             "environment" => self.setting.say_environment(alloc, text, out),
             "depfile" => say_names(alloc, text, out),
@@ -161,6 +162,9 @@ impl World for Functions {
         let name = words.next();
         if name == "export-all" && words.rest.is_empty() {
             return self.setting.say_all_exported(out);
+        }
+        if name == "recipes" && words.rest.is_empty() {
+            return self.setting.say_recipes(out);
         }
         let given = arguments(alloc, words.rest)?;
         let answered = self.answer(alloc, name, &given, out);

@@ -1,5 +1,5 @@
-//! Calls GNU make's functions of words and bytes, its expansions, conditionals, lines of variables, what they make of these, statements,
-//! and what reads depfiles, as the rows of files say, and tells which answers differ.
+//! Calls GNU make's functions of words and bytes, its expansions, conditionals, lines of variables, what they make of these, statements
+//! and texts that are read, and what reads depfiles, as the rows of files say, and tells which answers differ.
 //!
 //! `word_rows FILE..`; without a FILE the rows are those of standard input. cases/words/README.md has the language of rows.
 #![tactic(auto)]
@@ -11,6 +11,7 @@ mod depfiles;
 mod expansions;
 mod functions;
 mod outside;
+mod readings;
 mod statements;
 mod tables;
 mod texts;

@@ -5,7 +5,7 @@ use mk_statements::{Define, Fault, Line, Role, Rule, Said, statements_of};
 use row_files::Answered;
 use std::alloc::{AllocError, Global};
 
-fn text_of(fault: Fault) -> &'static str {
+pub(crate) fn text_of(fault: Fault) -> &'static str {
     match fault {
         Fault::HasNul => "nul",
         Fault::MissingEndef => "missing-endef",

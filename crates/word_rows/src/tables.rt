@@ -6,11 +6,18 @@ use mk_variables::{Passed, Refusal};
 use row_files::{Answered, RowFault, bytes};
 use std::alloc::{AllocError, Global};
 
+/// Why nothing is made of the variables.
+pub(crate) fn say_refusal(out: &mut String, refusal: Refusal) -> Result<(), AllocError> {
+    match refusal {
+        Refusal::NoName => out.push_str("no-name"),
+        Refusal::Stop(stop) => say_stop(out, stop),
+    }
+}
+
 fn say_outcome(out: &mut String, outcome: Result<(), Refusal>) -> Result<(), AllocError> {
     match outcome {
         Ok(()) => out.push_str("taken"),
-        Err(Refusal::NoName) => out.push_str("no-name"),
-        Err(Refusal::Stop(stop)) => say_stop(out, stop),
+        Err(refusal) => say_refusal(out, refusal),
     }
 }
 
