@@ -383,7 +383,8 @@ fn unpacked(alloc: Global, explicit: Named<'_>) -> Result<Explicit, AllocError>
 fn in_front(alloc: Global, marks: &[u8], commands: Iter<'_>) -> Result<ByteStrings, AllocError>
     ensures { IfOk result (λ front. front ≡ marks.now ∷ commands.entry) }
 {
-    let mut front = ByteStrings::empty(alloc);
+    let (_count, texts) = commands.texts();
+    let mut front = ByteStrings::with_capacity(alloc, 1, marks.len().saturating_add(texts.len()))?;
     front.push(marks)?;
     for command in commands {
         front.push(command)?;
