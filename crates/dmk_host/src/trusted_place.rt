@@ -65,6 +65,8 @@ impl<R: Wait> Sights for TrustedPlace<'_, R> {
 impl<R: Wait> Place for TrustedPlace<'_, R> {
     ghost gone = { λ place path. Unit {0} };
 
+    ghost synced = { λ place path. Unit {0} };
+
     fn enter(&self, turn: Turn) -> Result<bool, AllocError> {
         self.place.enter(turn)
     }

@@ -1,6 +1,6 @@
 -- What stays true while targets are taken as they are, and what holds of their records.
-use Rattle.std.proofs.Common.{◌≡◌, ◌+◌, ◌⊎◌, inl, inr, ℕ, Bool, true, false, List, [], ◌∷◌, ◌++◌, Option, Some, None, drop, set, refl, sym, subst, append_assoc}
-use Rattle.std.specs.Prelude.{option_to_list}
+use Rattle.std.proofs.Common.{◌≡◌, ◌+◌, ◌⊎◌, inl, inr, ℕ, Bool, true, false, List, [], ◌∷◌, ◌++◌, Option, Some, None, drop, set, refl, sym, subst, ap, append_assoc}
+use Rattle.std.specs.Prelude.{option_to_list, IfSome}
 use Rattle.std.specs.List.{AllByRecursion, list_any}
 use Rattle.mk_names.specs.Names.{name_at}
 use Rattle.mk_nodes.specs.declared.graph.Graph.{Graph}
@@ -14,11 +14,13 @@ use Rattle.mk_plan.specs.declared.fault.RecipeFault.{RecipeFault}
 use Rattle.mk_plan.specs.declared.fault.RecipeFault.TheVariants as fault
 use Rattle.mk_plan.specs.declared.why.Why.{Why}
 use Rattle.st_records.specs.Limits.{IsGoodIn}
+use Rattle.st_records.specs.Parts.{target_of}
 use Rattle.st_records.specs.declared.version.Form.{Form}
 use Rattle.st_records.specs.declared.record.Record.{Record}
 use Rattle.st_file.specs.Batch.{may_stand}
+use Rattle.jb_recipe.specs.OnDisk.{files_made}
 use Rattle.dmk_reading.specs.Passing.{no_marks}
-use Rattle.dmk_trust.specs.Taken.{IsDoneOf, Takes, is_taken, cannot_be_recorded, is_made, has_nothing_to_run, is_faulty, TakesAll, at_end, behind, AreTaken}
+use Rattle.dmk_trust.specs.Taken.{IsDoneOf, Takes, is_taken, cannot_be_recorded, is_made, has_nothing_to_run, is_faulty, TakesAll, at_end, behind, AreTaken, IsOnDisk}
 
 -- the records so far: with those of the nodes that are left they are those of all
 abbrev pub TakenSoFar : (form : Form) (graph : Graph) (marks : List Bool) (i : ℕ) (taken : List Record) → Type 0
@@ -41,6 +43,20 @@ pub taken_all : (form : Form) (graph : Graph) (marks : List Bool) (i : ℕ) (tak
     drop i graph.order.items ≡ [] → taken ++ [] ≡ taken → TakenSoFar form graph marks i taken → AreTaken form graph taken
 taken_all form graph marks i taken none same before =
     subst (AreTaken form graph) same (before [] (subst (λ left. TakesAll form graph marks left []) (sym none) at_end))
+
+-- the files of each are on the disk
+pub all_more : (P : Record → Type 0) (xs ys : List Record) → AllByRecursion P xs → AllByRecursion P ys → AllByRecursion P (xs ++ ys)
+all_more P [] ys front more = more
+all_more P (x ∷ xs) ys front more = (front.0, all_more P xs ys front.1 more)
+
+pub noted_on_disk : {form : Form} {graph : Graph} {marks : List Bool} {n : ℕ} {remade : Bool} {note : Option Record} → (synced : List ℕ → Type 0) →
+    Takes form graph marks n remade note → IfSome note (λ _. AllByRecursion synced (files_made graph n)) →
+    AllByRecursion (IsOnDisk synced graph) (option_to_list note)
+noted_on_disk {n = n} synced (is_taken told why lines commands note let_be listed records (text, seen, is) good) synced_all = ((n, ap target_of is, synced_all), tt)
+noted_on_disk synced (cannot_be_recorded told why lines commands note let_be listed records is bad) synced_all = tt
+noted_on_disk synced (is_made told passes) synced_all = tt
+noted_on_disk synced (has_nothing_to_run remade passes) synced_all = tt
+noted_on_disk synced (is_faulty f is) synced_all = tt
 
 -- each record is good, and may stand in any batch
 good_first : {form : Form} {graph : Graph} {marks : List Bool} {n : ℕ} {remade : Bool} {note : Option Record} → Takes form graph marks n remade note →

@@ -1,6 +1,7 @@
 -- Which targets of a graph are taken as they are, and what is then recorded of them. Own; that a target is left which has a file and
 -- no later prerequisite is what POSIX make says where nothing is recorded.
 use Rattle.std.specs.Prelude.{◌≡◌, ℕ, Bool, true, false, List, [], ◌∷◌, ◌++◌, Option, Some, None, slice_set, option_to_list}
+use Rattle.std.specs.List.{AllByRecursion}
 use Rattle.mk_names.specs.Names.{name_at}
 use Rattle.mk_rule_lines.specs.declared.fault.TextFault.{TextFault}
 use Rattle.mk_recipe.specs.Line.{Records}
@@ -12,8 +13,10 @@ use Rattle.mk_plan.specs.Passing.{Passes, PassesUnlisted, IsFaultAt}
 use Rattle.mk_plan.specs.declared.fault.RecipeFault.TheVariants as fault
 use Rattle.mk_plan.specs.declared.why.Why.{Why}
 use Rattle.st_records.specs.Limits.{IsGoodIn}
+use Rattle.st_records.specs.Parts.{target_of}
 use Rattle.st_records.specs.declared.version.Form.{Form}
 use Rattle.jb_recipe.specs.Noting.{said_in}
+use Rattle.jb_recipe.specs.OnDisk.{files_made}
 use Rattle.jb_recipe.specs.Seen.{IsTextSeen}
 use Rattle.st_records.specs.declared.record.Record.{Record}
 use Rattle.st_records.specs.declared.record.Record.TheVariants as records
@@ -55,3 +58,7 @@ pub data TakesAll (form : Form) (graph : Graph) : (marks : List Bool) → (order
 -- the records of all targets of the graph that are taken as they are, in its order
 abbrev pub AreTaken : Form → Graph → List Record → Type 0
 AreTaken form graph taken = TakesAll form graph (no_marks graph) graph.order.items taken
+
+-- the record is of a target whose files, all that its recipe makes, are on the disk (`synced` says so of one)
+abbrev pub IsOnDisk : (synced : List ℕ → Type 0) → Graph → Record → Type 0
+IsOnDisk synced graph note = (n : ℕ) × (target_of note ≡ name_at graph.names n) × AllByRecursion synced (files_made graph n)

@@ -1,6 +1,6 @@
 //! The targets of a graph that are taken as they are, and what is then recorded of them.
 ghost use Rattle.std.specs.Prelude.{◌≡◌, ◌⊎◌, ◌<◌, ◌≤◌, ℕ, Bool, true, false, List, [], ◌∷◌, ◌++◌, length, nat_lt, None, IfOk, IfSome, IfNone, OnOk, option_to_list};
-ghost use Rattle.std.specs.List.{list_all};
+ghost use Rattle.std.specs.List.{list_all, AllByRecursion};
 ghost use Rattle.mk_rule_lines.specs.declared.fault.TextFault.{TextFault as ExpansionFault};
 ghost use Rattle.mk_recipe.specs.Line.{Records};
 ghost use Rattle.mk_names.specs.Names.{name_at};
@@ -10,15 +10,17 @@ ghost use Rattle.mk_plan.specs.declared.fault.RecipeFault.TheVariants as faults;
 ghost use Rattle.mk_plan.specs.declared.why.Why.{Why as Cause};
 ghost use Rattle.st_records.specs.Limits.{IsGoodIn, SaysExplicitIn};
 ghost use Rattle.st_records.specs.Parts.{status_of};
-ghost use Rattle.dmk_trust.specs.Taken.{IsDoneOf, Takes, AreTaken};
+ghost use Rattle.jb_recipe.specs.OnDisk.{files_made};
+ghost use Rattle.dmk_trust.specs.Taken.{IsDoneOf, Takes, AreTaken, IsOnDisk};
 
 use byte_strings::{ByteString, ByteStrings};
 use dmk_messages::Fault;
 use dmk_store::Stop;
-use jb_recipe::{Place, PlaceFault, is_writable, said_in, text_seen};
+use jb_recipe::{Place, PlaceFault, is_writable, said_in, sync_made, text_seen};
 use mk_nodes::Graph;
 use mk_plan::{Passed, RecipeFault, explicit_of, name_of, pass};
 use mk_recipe::{Line, recorded};
+use mk_seen::made_beside;
 use st_records::{Form, Record};
 use std::alloc::{AllocError, Global};
 
@@ -215,27 +217,59 @@ fn add(records: &mut Vec<Record>, note: Option<Record>) -> Result<(), AllocError
     Ok(())
 }
 
+/// Puts the files that a node's recipe makes on the disk: a power cut takes no data from a target that is recorded as made.
+fn put_on_disk<P: Place>(
+    alloc: Global,
+    graph: &Graph,
+    place: &P,
+    node: usize,
+) -> Result<(), PlaceFault>
+    requires { node < length graph.now.nodes.items }
+    ensures { OnOk result (AllByRecursion (P.synced place.now) (files_made graph.now node)) }
+{
+    let others = made_beside(alloc, graph, node)?;
+    sync_made(place, name_of(graph, node), &others)
+}
+
+/// What comes of a node. Where it is taken as it is, its files are on the disk.
+fn take_on_disk<P: Place>(
+    alloc: Global,
+    form: Form,
+    graph: &Graph,
+    place: &P,
+    marks: &[bool],
+    node: usize,
+) -> Result<Found, PlaceFault>
+    requires { node < length graph.now.nodes.items }
+    ensures taken { IfOk result (λ found. Takes form graph.now marks.now node found.is_remade found.note) }
+    ensures on_disk { IfOk result (λ found. IfSome found.note (λ _. AllByRecursion (P.synced place.now) (files_made graph.now node))) }
+{
+    let found = take(alloc, form, graph, marks, node)?;
+    if found.note.is_some() {
+        put_on_disk(alloc, graph, place, node)?;
+    }
+    Ok(found)
+}
+
 /// The records of all targets that are taken as they are, in the graph's order.
-pub(crate) fn taken(alloc: Global, form: Form, graph: &Graph) -> Result<Vec<Record>, AllocError>
+fn taken<P: Place>(
+    alloc: Global,
+    form: Form,
+    graph: &Graph,
+    place: &P,
+) -> Result<Vec<Record>, PlaceFault>
     requires { list_all (λ n. nat_lt n (length graph.now.nodes.items)) graph.now.order.items ≡ true }
-    ensures { IfOk result (λ records. AreTaken form graph.now records.items) }
+    ensures taken { IfOk result (λ records. AreTaken form graph.now records.items) }
+    ensures on_disk { IfOk result (λ records. AllByRecursion (IsOnDisk (P.synced place.now) graph.now) records.items) }
 {
     let mut marks = vec![in alloc; false; graph.len()]?;
     let mut records = Vec::new(alloc);
     for node in graph.order.as_slice() {
-        let found = take(alloc, form, graph, &marks, *node)?;
+        let found = take_on_disk(alloc, form, graph, place, &marks, *node)?;
         marks[*node] = found.is_remade;
         add(&mut records, found.note)?;
     }
     Ok(records)
-}
-
-/// Puts the files of these targets on the disk: a power cut takes no data from a target that is recorded as made.
-fn put_on_disk<P: Place>(place: &P, records: &[Record]) -> Result<(), PlaceFault> {
-    for record in records {
-        place.sync(record.target().as_slice())?;
-    }
-    Ok(())
 }
 
 /// The records of the targets that are taken as they are, whose files are on the disk.
@@ -246,11 +280,11 @@ pub(crate) fn taken_on_disk<P: Place>(
     place: &P,
 ) -> Result<Vec<Record>, Stop>
     requires { list_all (λ n. nat_lt n (length graph.now.nodes.items)) graph.now.order.items ≡ true }
-    ensures { IfOk result (λ records. AreTaken form graph.now records.items) }
+    ensures taken { IfOk result (λ records. AreTaken form graph.now records.items) }
+    ensures on_disk { IfOk result (λ records. AllByRecursion (IsOnDisk (P.synced place.now) graph.now) records.items) }
 {
-    let records = taken(alloc, form, graph)?;
-    match put_on_disk(place, &records) {
-        Ok(()) => Ok(records),
+    match taken(alloc, form, graph, place) {
+        Ok(records) => Ok(records),
         Err(PlaceFault::OutOfMemory) => Err(Stop::Before(Fault::OutOfMemory)),
         Err(PlaceFault::Device(error)) => Err(Stop::NotOnDisk(error)),
     }

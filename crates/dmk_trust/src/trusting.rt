@@ -1,7 +1,7 @@
 //! Targets taken as they are, on a disk where nothing is known of any.
 ghost use Rattle.std.specs.Prelude.{◌≡◌, ◌≢◌, ◌⊎◌, ℕ, true, false, List, [], Option, length, nat_lt, IfOk, IfErr, OnOk};
 ghost use Rattle.std.specs.FinMap as finmap;
-ghost use Rattle.std.specs.List.{list_all};
+ghost use Rattle.std.specs.List.{list_all, AllByRecursion};
 ghost use Rattle.mk_eval.specs.Output.{World};
 ghost use Rattle.mk_reader.specs.declared.item.Item.{Item as MakefileItem};
 ghost use Rattle.st_disk.specs.Moments.{now, Throughout};
@@ -11,7 +11,7 @@ ghost use Rattle.st_state.specs.State.{replay};
 ghost use Rattle.dmk_reading.specs.Definitions.{first_defined};
 ghost use Rattle.dmk_reading.specs.Keeping.{keeps, kept_form};
 ghost use Rattle.dmk_reading.specs.Planned.{AreItems, IsGraphOf, IsWholeGraphOf};
-ghost use Rattle.dmk_trust.specs.Taken.{AreTaken};
+ghost use Rattle.dmk_trust.specs.Taken.{AreTaken, IsOnDisk};
 ghost use Rattle.dmk_trust.specs.Trusted.{AllRecoverTaken, AllRecoverOrTaken, ArePossibleOrTaken, IsLeft, LeavesState};
 ghost use Rattle.dmk_printing.specs.declared.trusted.Trusted.TheVariants as trusteds;
 ghost use Rattle.mk_nodes.specs.declared.file_look.FileLook.{FileLook};
@@ -47,6 +47,8 @@ fn record_taken<P: Place, D: Disk + Drop>(
     ensures recovers { D.honest → OnOk result (AllRecoverIn store.old.newest store.new.state (now (D.moments store.new.log.disk))) }
     ensures taken { IfOk result (λ count. (steps : List Step) × AreTaken store.old.newest graph.now steps
         × (store.new.state ≡ replay store.old.state steps) × (length steps ≡ count)) }
+    ensures on_disk { IfOk result (λ _. (steps : List Step) × AllByRecursion (IsOnDisk (P.synced place.now) graph.now) steps
+        × (store.new.state ≡ replay store.old.state steps)) }
 {
     let records = taken_on_disk(alloc, store.newest, graph, place)?;
     match store.commit(alloc, &records) {

@@ -262,6 +262,8 @@ impl<'a, R: Wait> HostPlace<'a, R> {
 impl<R: Wait> Place for HostPlace<'_, R> {
     ghost gone = { λ place path. Unit {0} };
 
+    ghost synced = { λ place path. Unit {0} };
+
     fn enter(&self, turn: Turn) -> Result<bool, AllocError> {
         self.turns.enter(self.rt, turn)
     }

@@ -1,3 +1,4 @@
 pub mod HiddenLemmas
 pub mod NotingLemmas
 pub mod SilenceLemmas
+pub mod SurviveLemmas

@@ -1,9 +1,11 @@
 pub mod Environment
 pub mod Failing
 pub mod Files
+pub mod FilesSurvive
 pub mod Hidden
 pub mod LongLine
 pub mod Noting
+pub mod OnDisk
 pub mod Places
 pub mod Running
 pub mod Seen

@@ -1,7 +1,9 @@
 //! The files of targets, beside what recipes do to them.
-ghost use Rattle.std.specs.Prelude.{ℕ, List, OnOk};
+ghost use Rattle.std.specs.Prelude.{ℕ, List, ◌∷◌, OnOk};
+ghost use Rattle.std.specs.List.{AllByRecursion};
 
 use crate::{Stopped, Turn};
+use byte_strings::ByteStrings;
 use jb_marks::Sights;
 use std::alloc::{AllocError, Global};
 use std::io;
@@ -28,11 +30,14 @@ impl From<AllocError> for PlaceFault {
     }
 }
 
-/// Where reports are written and targets are made, and where files are looked at. Nothing is claimed of it: what files hold is outside
-/// every proof.
+/// Where reports are written and targets are made, and where files are looked at. Nothing is claimed of it but which calls were made:
+/// what files hold is outside every proof.
 pub trait Place: Sights {
     /// Nothing is left under this name: a fact that only a call of `remove` gives.
     ghost gone: { Self → List ℕ → Type 0 };
+
+    /// What stands under this name is on the disk as it was when a call began: a fact that only a call of `sync` gives.
+    ghost synced: { Self → List ℕ → Type 0 };
 
     /// Waits until a recipe may be run so, and tells whether it had to. From then on it counts as one that runs, until it leaves. Where
     /// memory is wanted it doesn't.
@@ -67,5 +72,17 @@ pub trait Place: Sights {
 
     /// Puts a target's file on the disk, and its folder, before its 'done' is written. What isn't there or can't be opened is
     /// passed over: many targets are no files.
-    fn sync(&self, target: &[u8]) -> Result<(), PlaceFault>;
+    fn sync(&self, target: &[u8]) -> Result<(), PlaceFault>
+        ensures { OnOk result (synced self.now target.now) };
+}
+
+/// Puts a target's file on the disk, and those that its recipe makes beside it.
+pub fn sync_made<P: Place>(place: &P, target: &[u8], others: &ByteStrings) -> Result<(), PlaceFault>
+    ensures { OnOk result (AllByRecursion (P.synced place.now) (target.now ∷ others.now)) }
+{
+    place.sync(target)?;
+    for other in others {
+        place.sync(other)?;
+    }
+    Ok(())
 }

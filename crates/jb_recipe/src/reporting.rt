@@ -1,11 +1,13 @@
 //! How a target's recipe ended, as it is written.
-ghost use Rattle.std.specs.Prelude.{◌≡◌, ◌⊎◌, ◌≤◌, ℕ, true, List, IfOk, IfSome};
+ghost use Rattle.std.specs.Prelude.{◌≡◌, ◌⊎◌, ◌≤◌, ℕ, true, List, ◌∷◌, IfOk, IfSome, OnOk};
+ghost use Rattle.std.specs.List.{AllByRecursion};
 ghost use Rattle.st_records.specs.Limits.{IsGoodIn};
 ghost use Rattle.st_records.specs.declared.record.Record.TheVariants as records;
 ghost use Rattle.mk_recipe.specs.declared.line_status.Outcome.TheVariants.{Done};
 ghost use Rattle.bd_lists.specs.Running.{FailsInRange};
 ghost use Rattle.jb_recipe.specs.Files.{AreMarksOf, IsLeftSame};
 ghost use Rattle.jb_recipe.specs.Noting.{said_in, IsEndOf};
+ghost use Rattle.jb_recipe.specs.OnDisk.{StandsBehind};
 
 use crate::depfile::Read;
 use crate::elsewhere::tells_elsewhere;
@@ -14,6 +16,7 @@ use crate::files::Files;
 use crate::hidden::hidden_by;
 use crate::looking::{Behind, look_at_left};
 use crate::noting::writable;
+use crate::place::sync_made;
 use crate::said::said_in;
 use crate::{NotDone, Place, PlaceFault};
 use byte_strings::{ByteString, ByteStrings};
@@ -61,15 +64,6 @@ fn taken<P: Place>(
             Some(not_done) => Ok(Err(not_done)),
             None => Err(AllocError),
         },
-    }
-}
-
-/// Puts a file on the disk, or says why it isn't there.
-fn synced<P: Place>(place: &P, name: &[u8]) -> Result<Result<(), NotDone>, AllocError> {
-    match place.sync(name) {
-        Ok(()) => Ok(Ok(())),
-        Err(PlaceFault::Device(error)) => Ok(Err(NotDone::NotSynced(error))),
-        Err(PlaceFault::OutOfMemory) => Err(AllocError),
     }
 }
 
@@ -203,19 +197,18 @@ impl EndNote {
     }
 
     // Puts the files that the recipe makes on the disk, or says why one isn't there. Only a state that is kept could outlive them.
-    fn synced<P: Place>(&self, place: &P) -> Result<Result<(), NotDone>, AllocError> {
+    fn synced<P: Place>(&self, place: &P) -> Result<Result<(), NotDone>, AllocError>
+        ensures { IfOk result (λ r. OnOk r (IfSome self.now.report
+            (λ _. AllByRecursion (P.synced place.now) (self.now.target ∷ self.now.files.others)))) }
+    {
         if self.report.is_none() {
             return Ok(Ok(()));
         }
-        if let Err(not_done) = synced(place, self.target.as_slice())? {
-            return Ok(Err(not_done));
+        match sync_made(place, self.target.as_slice(), &self.files.others) {
+            Ok(()) => Ok(Ok(())),
+            Err(PlaceFault::Device(error)) => Ok(Err(NotDone::NotSynced(error))),
+            Err(PlaceFault::OutOfMemory) => Err(AllocError),
         }
-        for other in self.files.others.iter() {
-            if let Err(not_done) = synced(place, other)? {
-                return Ok(Err(not_done));
-            }
-        }
-        Ok(Ok(()))
     }
 
     // What a recipe that passed has read, or why a report of that can't be taken or the target's file isn't on the disk.
@@ -224,7 +217,10 @@ impl EndNote {
         alloc: Global,
         key: HashKey,
         place: &P,
-    ) -> Result<Result<Read, NotDone>, AllocError> {
+    ) -> Result<Result<Read, NotDone>, AllocError>
+        ensures { IfOk result (λ r. IfOk r (λ _. IfSome self.now.report
+            (λ _. AllByRecursion (P.synced place.now) (self.now.target ∷ self.now.files.others)))) }
+    {
         let reported = match self.hidden(alloc, key, place)? {
             Ok(reported) => reported,
             Err(not_done) => return Ok(Err(not_done)),
@@ -328,7 +324,8 @@ impl EndNote {
 
     /// The record of the end: a 'done' only where the report was taken, the target's file is on the disk, and the record may
     /// stand in the state. Where it says which files the target was made of, what the recipe made and what is new in the report are
-    /// looked at once the files are on the disk.
+    /// looked at once the files are on the disk. Where a report is asked for, as in each run that keeps a state, a 'done' stands behind the
+    /// sync of each file that the recipe made.
     pub fn last_record<P: Place, E: Earlier>(
         self,
         alloc: Global,
@@ -342,6 +339,8 @@ impl EndNote {
         ensures end { IfOk result (λ l. IfSome l.record (λ note. IsEndOf self.form outcome self.target self.commands self.files.explicit
             (AreMarksOf (P.told place.now) (E.said run.now) self.target self.files self.looked) note)) }
         ensures same { IfOk result (λ l. l.is_same ≡ true → IsLeftSame (P.told place.now) self.target self.files self.looked) }
+        ensures on_disk { IfOk result (λ l. IfSome l.record (λ note. IfSome self.report
+            (λ _. StandsBehind (P.synced place.now) (self.target ∷ self.files.others) note))) }
     {
         if let Outcome::Failed(status) = outcome {
             let _ = self.remove_report(place);

@@ -25,6 +25,8 @@ impl<R: Wait + Clock + Copy> Sights for Fake<R> {
 impl<R: Wait + Clock + Copy> Place for Fake<R> {
     ghost gone = { λ fake path. Unit {0} };
 
+    ghost synced = { λ fake path. Unit {0} };
+
     fn enter(&self, _turn: Turn) -> Result<bool, AllocError> {
         Ok(false)
     }
