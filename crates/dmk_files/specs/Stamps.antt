@@ -41,3 +41,7 @@ KnowsTheSame before after = (n : List ℕ) → known_stamp after n ≡ known_sta
 -- what is known is what these looks tell
 abbrev pub AgreesWith : Known → (looks : List ℕ → Option FileLook) → Type 0
 AgreesWith known looks = (name : List ℕ) → IfSome (known_stamp known name) (λ stamp. looks name ≡ stamp)
+
+-- what is known of each name was said of that very name
+abbrev pub IsSaid : (says : List ℕ → Option FileLook → Type 0) → Known → Type 0
+IsSaid says known = (name : List ℕ) → IfSome (known_stamp known name) (says name)

@@ -1,6 +1,9 @@
-//! What is asked of the system, one call at a time. Nothing is claimed of the answers.
-ghost use Rattle.std.specs.Prelude.{◌≡◌};
-ghost use Rattle.dmk_files.specs.Files.{nanoseconds_of, look_of};
+//! What is asked of the system, one call at a time. Nothing is claimed of the answers, but of which name each is.
+ghost use Rattle.std.specs.Prelude.{◌≡◌, ℕ, List, Option, Some, None, true, IfOk, IfErr};
+ghost use Rattle.std.specs.IoError.{error_kind};
+ghost use Rattle.mk_nodes.specs.Look.{is_taken_as_old};
+ghost use Rattle.mk_nodes.specs.declared.file_look.FileLook.{FileLook};
+ghost use Rattle.dmk_files.specs.Files.{IsMissing, nanoseconds_of, look_of};
 
 use byte_strings::ByteStrings;
 use mk_nodes::FileLook;
@@ -45,11 +48,17 @@ impl FileStatus {
 
 /// The calls. Links are followed.
 pub trait FileCalls {
+    /// This was said of the file of this name, or that there is none: a fact that only a call with this name gives.
+    ghost says: { List ℕ → Option FileLook → Type 0 };
+
     /// Whether the file of this name is taken as old, whatever is known of it.
-    fn is_taken_as_old(&self, name: &str) -> bool;
+    fn is_taken_as_old(&self, name: &str) -> bool
+        ensures { result ≡ true → (look : FileLook) → is_taken_as_old (Some look) ≡ true → says name.now (Some look) };
 
     /// What is known of the file of this name. It opens no file.
-    fn status(&mut self, name: &str) -> io::Result<FileStatus>;
+    fn status(&mut self, name: &str) -> io::Result<FileStatus>
+        ensures file { IfOk result (λ status. says name.now (Some (look_of status))) }
+        ensures missing { IfErr result (λ error. IsMissing (error_kind error) → says name.now None) };
 
     /// All bytes of the file of this name, which is an ordinary one.
     fn contents(&mut self, alloc: Global, name: &str) -> io::Result<Vec<u8>>;

@@ -1,8 +1,8 @@
 //! Looks at files by the system's calls, one a name.
-ghost use Rattle.std.specs.Prelude.{◌≡◌, ◌<◌, ◌⊎◌, ℕ, length, true, false, List, Option, None, IfOk, IfErr, IsOk, IsErr, IsSome};
+ghost use Rattle.std.specs.Prelude.{◌≡◌, ◌<◌, ◌⊎◌, ℕ, length, true, false, List, Option, Some, None, IfOk, IfErr, IsOk, IsErr, IsSome};
 ghost use Rattle.std.specs.IoError.{error_kind};
 ghost use Rattle.mk_names.specs.Names.{name_at, has_name};
-ghost use Rattle.dmk_files.specs.Stamps.{names_of, known_stamp, AgreesWith};
+ghost use Rattle.dmk_files.specs.Stamps.{names_of, known_stamp, AgreesWith, IsSaid};
 ghost use Rattle.mk_sources.specs.Tree.{IsTreeFault};
 ghost use Rattle.dmk_files.specs.Files.{IsMissing, look_of};
 ghost use Rattle.mk_nodes.specs.declared.file_look.FileLook.{FileLook};
@@ -46,6 +46,7 @@ fn is_missing(error: &io::Error) -> bool
 fn refused_look(error: &io::Error) -> Result<Option<FileLook>, TreeFault>
     ensures missing { IsMissing (error_kind error.now) → result ≡ Ok None }
     ensures others { (IsMissing (error_kind error.now) → ⊥) → IsErr result }
+    ensures told { IfOk result (λ look. (look ≡ None) × IsMissing (error_kind error.now)) }
     ensures fault { IfErr result (IsTreeFault (Unit {0})) }
 {
     if is_missing(error) {
@@ -62,6 +63,8 @@ fn stamp_of(answer: io::Result<FileStatus>) -> Result<Option<FileLook>, TreeFaul
     ensures look { IfOk answer (λ status. result ≡ Ok (Some (look_of status))) }
     ensures missing { IfErr answer (λ error. IsMissing (error_kind error) → result ≡ Ok None) }
     ensures others { IfErr answer (λ error. (IsMissing (error_kind error) → ⊥) → IsErr result) }
+    ensures told { IfOk result (λ look. IfOk answer (λ status. look ≡ Some (look_of status))
+        × IfErr answer (λ error. (look ≡ None) × IsMissing (error_kind error))) }
     ensures fault { IfErr result (IsTreeFault (Unit {0})) }
 {
     match answer {
@@ -72,7 +75,8 @@ fn stamp_of(answer: io::Result<FileStatus>) -> Result<Option<FileLook>, TreeFaul
 
 /// What the system says of a name.
 fn look_by<C: FileCalls>(calls: &mut C, name: &[u8]) -> Result<Option<FileLook>, TreeFault>
-    ensures { IfErr result (IsTreeFault (Unit {0})) }
+    ensures said { IfOk result (C.says name.now) }
+    ensures fault { IfErr result (IsTreeFault (Unit {0})) }
 {
     let Ok(name) = std::str::from_utf8(name) else {
         return Err(TreeFault::CannotLook);
@@ -86,7 +90,8 @@ fn look_by<C: FileCalls>(calls: &mut C, name: &[u8]) -> Result<Option<FileLook>,
 impl<C: FileCalls + Drop> FileTree<C> {
     /// Nothing is known yet of any name.
     pub fn new(alloc: Global, calls: C) -> FileTree<C>
-        ensures { (name : List ℕ) → known_stamp result.stamps name ≡ None }
+        ensures none { (name : List ℕ) → known_stamp result.stamps name ≡ None }
+        ensures said { IsSaid C.says result.stamps }
     {
         FileTree {
             calls,
@@ -105,6 +110,7 @@ impl<C: FileCalls + Drop> FileTree<C> {
         requires name { name_at (names_of self.old.stamps) number ≡ name.now }
         ensures stamp { IfOk result (λ stamp. (looks : List ℕ → Option FileLook) → AgreesWith self.new.stamps looks → stamp ≡ looks name.now) }
         ensures grows { (looks : List ℕ → Option FileLook) → AgreesWith self.new.stamps looks → AgreesWith self.old.stamps looks }
+        ensures said { IsSaid C.says self.old.stamps → IsSaid C.says self.new.stamps }
         ensures known { IsSome (known_stamp self.old.stamps name.now) → self.new ≡ self.old }
         ensures found { IsSome (known_stamp self.old.stamps name.now) → IsOk result }
         ensures listed { self.new.stamps.listed ≡ self.old.stamps.listed }
@@ -124,6 +130,7 @@ impl<C: FileCalls + Drop> FileTree<C> {
     fn look(&mut self, alloc: Global, name: &[u8]) -> Result<Option<FileLook>, TreeFault>
         ensures stamp { IfOk result (λ stamp. (looks : List ℕ → Option FileLook) → AgreesWith self.new.stamps looks → stamp ≡ looks name.now) }
         ensures grows { (looks : List ℕ → Option FileLook) → AgreesWith self.new.stamps looks → AgreesWith self.old.stamps looks }
+        ensures said { IsSaid C.says self.old.stamps → IsSaid C.says self.new.stamps }
         ensures known { IsSome (known_stamp self.old.stamps name.now) → self.new.calls ≡ self.old.calls }
         ensures listed { (n : List ℕ) → has_name self.new.stamps.listed n ≡ true → has_name self.old.stamps.listed n ≡ true }
         ensures fault { IfErr result (IsTreeFault (Unit {0})) }
@@ -140,6 +147,7 @@ impl<C: FileCalls + Drop> FileTree<C> {
         requires no_listed { has_name self.old.stamps.listed name.now ≡ false }
         ensures stamp { IfOk result (λ stamp. (looks : List ℕ → Option FileLook) → AgreesWith self.new.stamps looks → stamp ≡ looks name.now) }
         ensures grows { (looks : List ℕ → Option FileLook) → AgreesWith self.new.stamps looks → AgreesWith self.old.stamps looks }
+        ensures said { IsSaid C.says self.old.stamps → IsSaid C.says self.new.stamps }
         ensures listed { (n : List ℕ) → has_name self.new.stamps.listed n ≡ true → (has_name self.old.stamps.listed n ≡ true) ⊎ (n ≡ name.now) }
         ensures fault { IfErr result (IsTreeFault (Unit {0})) }
     {
@@ -155,6 +163,7 @@ impl<C: FileCalls + Drop> FileTree<C> {
         requires { has_name self.old.stamps.listed name.now ≡ false }
         ensures stamp { IfOk result (λ stamp. (looks : List ℕ → Option FileLook) → AgreesWith self.new.stamps looks → stamp ≡ looks name.now) }
         ensures grows { (looks : List ℕ → Option FileLook) → AgreesWith self.new.stamps looks → AgreesWith self.old.stamps looks }
+        ensures said { IsSaid C.says self.old.stamps → IsSaid C.says self.new.stamps }
         ensures known { IsSome (known_stamp self.old.stamps name.now) → self.new ≡ self.old }
         ensures found { IsSome (known_stamp self.old.stamps name.now) → IsOk result }
         ensures listed { (n : List ℕ) → has_name self.new.stamps.listed n ≡ true → (has_name self.old.stamps.listed n ≡ true) ⊎ (n ≡ name.now) }

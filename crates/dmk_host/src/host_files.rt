@@ -203,6 +203,8 @@ const LATEST: i64 = i64::MAX;
 const MARK: &[u8] = b"\xEF\xBB\xBF";
 
 impl FileCalls for HostFiles<'_> {
+    ghost says = { λ name look. Unit {0} };
+
     fn is_taken_as_old(&self, name: &str) -> bool {
         match self.assumed {
             Some(assumed) => assumed.is_old(name),
