@@ -24,7 +24,8 @@ SIGNATURE = re.compile(r"^(?:pub )?([^\s:(){}]+) : ")
 WAITING = {
 }
 WAITING_EXPORTS = {
-    "bl_log": {"CriticalPath", "Ranked", "Span", "busy", "by_time", "critical_path", "lanes"},
+    "bl_log": {"CriticalPath", "Ranked", "busy", "by_time", "critical_path", "lanes"},
+    "bl_reading": {"Commit", "End", "Ended", "Fault", "Outcome", "Recipe", "Refusal", "Run", "read_log"},
     "jb_marks": {"Known", "MemorySights", "Placed", "is_same"},
     "jb_slots": {"Fifo", "dry"},
     # What a target alone has, behind its colon, is read by it.
