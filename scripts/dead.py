@@ -24,8 +24,10 @@ SIGNATURE = re.compile(r"^(?:pub )?([^\s:(){}]+) : ")
 WAITING = {
 }
 WAITING_EXPORTS = {
-    "bl_log": {"CriticalPath", "Ranked", "busy", "by_time", "critical_path", "lanes"},
-    "bl_reading": {"Commit", "End", "Ended", "Fault", "Outcome", "Recipe", "Refusal", "Run", "read_log"},
+    "bl_log": {"Ranked", "lanes"},
+    # Types of fields that others read.
+    "bl_reading": {"End", "Fault", "Refusal", "read_log"},
+    "bl_reports": {"page", "stats", "trace"},
     "jb_marks": {"Known", "MemorySights", "Placed", "is_same"},
     "jb_slots": {"Fifo", "dry"},
     # What a target alone has, behind its colon, is read by it.
