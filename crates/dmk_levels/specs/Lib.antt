@@ -1,0 +1,2 @@
+-- Known: which targets are taken over, and by which records.
+pub mod Known
