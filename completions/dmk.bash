@@ -7,10 +7,10 @@ _dmk() {
     [ "$word" != = ] || word=
     case $before in
         -C | --directory | -I | --include-dir) mapfile -t COMPREPLY < <(compgen -d -- "$word"); return ;;
-        -f | --file | --makefile | -K) mapfile -t COMPREPLY < <(compgen -f -- "$word"); return ;;
+        -f | --file | --makefile | -K | --log) mapfile -t COMPREPLY < <(compgen -f -- "$word"); return ;;
     esac
     case $word in
-        -*) mapfile -t COMPREPLY < <(compgen -W '-C --directory -e --environment-overrides -f --file --makefile -I --include-dir -K -r --no-builtin-rules -R --no-builtin-variables --posix -B --always-make -i --ignore-errors -j --jobs -l --load-average --max-load -k --keep-going -S --no-keep-going --stop --trust-files -W --what-if --new-file --assume-new -o --old-file --assume-old -n --dry-run --just-print --recon -q --question -d --trace -O --output --output-sync -p --print-data-base -s --silent --quiet --no-silent --progress --warn-undefined --warn-undefined-variables -w --print-directory --no-print-directory -h --help -V --version' -- "$word") ;;
+        -*) mapfile -t COMPREPLY < <(compgen -W '-C --directory -e --environment-overrides -f --file --makefile -I --include-dir -K -r --no-builtin-rules -R --no-builtin-variables --posix -B --always-make -i --ignore-errors -j --jobs -l --load-average --max-load -k --keep-going -S --no-keep-going --stop --trust-files -W --what-if --new-file --assume-new -o --old-file --assume-old -n --dry-run --just-print --recon -q --question -d --trace -O --output --output-sync -p --print-data-base -s --silent --quiet --no-silent --progress --log --warn-undefined --warn-undefined-variables -w --print-directory --no-print-directory -h --help -V --version' -- "$word") ;;
         *) mapfile -t COMPREPLY < <(compgen -W "$(_dmk_targets)" -- "$word"; compgen -f -- "$word") ;;
     esac
 }

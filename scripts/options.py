@@ -20,7 +20,7 @@ TEST_CRATES = {
     "board_rows", "call_rows", "disk_rows", "record_rows", "row_files", "run_doubles", "store_rows", "unit_tests", "word_rows", "worker_tests",
 }
 # No program stands on these yet.
-LATER_CRATES = {"dmk_log"}
+LATER_CRATES = set()
 
 # Texts of errors that are answered by others: those of a record become 'damaged at byte N' or 'cannot be recorded', those of
 # a report the note on the target, those of a commit 'state not written: ..', and that of a look names what was looked at.
@@ -94,7 +94,7 @@ def options_of_zsh():
         if braces := re.search(r"\{(-[^}]*)\}", word):
             options.update(option.rstrip("=") for option in braces[1].split(","))
         else:
-            options.update(re.findall(r"^\*?(--?[A-Za-z][\w-]*)\[", word))
+            options.update(re.findall(r"^\*?(--?[A-Za-z][\w-]*)=?\[", word))
     return options
 
 

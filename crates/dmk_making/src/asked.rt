@@ -1,5 +1,6 @@
 //! What the words of the command line ask for, done in its folder.
 
+use crate::logging::{HostLog, open_log};
 use crate::making::make;
 use bd_lists::Variable;
 use dmk_asking::ask;
@@ -64,16 +65,18 @@ fn run_there<R: Threads + Wait + Sync>(
         tells_folder,
         program,
         later,
+        log,
         options,
     } = asked;
     let begun = begin(host, &folders, tells_folder);
     drop(folders);
     if let Err(fault) = begun {
         drop(options);
+        drop(log);
         drop(program);
         return refused(host, fault);
     }
-    let status = run(rt, host, options, later, program.as_deref(), input);
+    let status = run_logged(rt, host, options, later, log, program.as_deref(), input);
     drop(program);
     if tells_folder {
         return left(host, status);
@@ -102,17 +105,47 @@ fn refused(host: HostRuntime, fault: FolderFault) -> u8 {
     2
 }
 
+/// Runs what the words ask for, with a log where they ask for one, and answers the status.
+fn run_logged<R: Threads + Wait + Sync>(
+    rt: &R,
+    host: HostRuntime,
+    options: Options,
+    later: Later,
+    log: Option<String>,
+    program: Option<&[u8]>,
+    input: Option<&[u8]>,
+) -> u8 {
+    let Some(path) = log else {
+        return run(rt, host, options, later, None, program, input);
+    };
+    match open_log(host, path, &options) {
+        Ok(log) => {
+            let status = run(rt, host, options, later, Some(&log), program, input);
+            log.end(rt, status);
+            drop(log);
+            status
+        }
+        Err(fault) => {
+            drop(options);
+            tell_fault(host, &fault);
+            drop(fault);
+            2
+        }
+    }
+}
+
 /// Runs what the words ask for, and answers the status.
 fn run<R: Threads + Wait + Sync>(
     rt: &R,
     host: HostRuntime,
     options: Options,
     later: Later,
+    log: Option<&HostLog>,
     program: Option<&[u8]>,
     input: Option<&[u8]>,
 ) -> u8 {
     let held = held_streams(host);
-    let ran = run_in(rt, host, options, later, program, input);
+    let ran = run_in(rt, host, options, later, log, program, input);
     drop(held);
     match ran {
         Ok(status) => status,
@@ -137,6 +170,7 @@ fn run_in<R: Threads + Wait + Sync>(
     host: HostRuntime,
     options: Options,
     later: Later,
+    log: Option<&HostLog>,
     program: Option<&[u8]>,
     input: Option<&[u8]>,
 ) -> Result<u8, AllocError> {
@@ -148,7 +182,7 @@ fn run_in<R: Threads + Wait + Sync>(
         }
     };
     match settled(host, options, later, &environment) {
-        Ok(Some(options)) => run_settled(rt, host, options, later, environment, input),
+        Ok(Some(options)) => run_settled(rt, host, options, later, log, environment, input),
         Ok(None) => {
             drop(environment);
             Ok(2)
@@ -188,6 +222,7 @@ fn run_settled<R: Threads + Wait + Sync>(
     host: HostRuntime,
     options: Options,
     later: Later,
+    log: Option<&HostLog>,
     environment: Vec<Variable>,
     input: Option<&[u8]>,
 ) -> Result<u8, AllocError> {
@@ -199,7 +234,7 @@ fn run_settled<R: Threads + Wait + Sync>(
         }
     };
     let ran = match with_state_below(host, options, &environment) {
-        Ok(options) => run_with(rt, host, options, later, &environment, input),
+        Ok(options) => run_with(rt, host, options, later, log, &environment, input),
         Err(error) => Err(error),
     };
     drop(environment);
@@ -212,11 +247,12 @@ fn run_with<R: Threads + Wait + Sync>(
     host: HostRuntime,
     options: Options,
     later: Later,
+    log: Option<&HostLog>,
     environment: &[Variable],
     input: Option<&[u8]>,
 ) -> Result<u8, AllocError> {
     match options.mode(value_of(environment, b"MAKEFLAGS")) {
-        Mode::Run => make(rt, host, options, later, environment, input),
+        Mode::Run => make(rt, host, options, later, log, environment, input),
         Mode::DryRun | Mode::Question => ask(host, options, later, environment, input),
     }
 }

@@ -3,6 +3,7 @@
 
 mod asked;
 mod duty;
+mod logging;
 mod making;
 mod outfit;
 mod state_lock;

@@ -4,6 +4,7 @@ ghost use Rattle.dmk_reading.specs.Keeping.{value_in};
 ghost use Rattle.dmk_reading.specs.Asked.{AsksToRun};
 
 use crate::duty::duty_of;
+use crate::logging::HostLog;
 use crate::outfit::{HostPrinter, Lent, Outfit, base_told, outfit_of};
 use crate::state_lock::StateLock;
 use bd_flusher::Receipt;
@@ -365,7 +366,7 @@ fn make_read<'f, R: Threads + Wait + Sync>(
     host: HostRuntime,
     options: Options,
     later: Later,
-    trees: &'f HostTrees,
+    lent: &'f Lent<'_>,
     environment: &[Variable],
     makefiles: &mut FileTexts<HostFiles<'f>>,
 ) -> Result<u8, AllocError>
@@ -379,7 +380,7 @@ fn make_read<'f, R: Threads + Wait + Sync>(
         }
     };
     let turns = Turns::new(host, host.alloc(), later.most_load);
-    let outfit = match outfit_of(rt, host, &turns, &options, later, environment) {
+    let outfit = match outfit_of(rt, host, &turns, &options, later, lent.log, environment) {
         Ok(outfit) => outfit,
         Err(error) => {
             drop(base);
@@ -393,7 +394,7 @@ fn make_read<'f, R: Threads + Wait + Sync>(
         rt,
         host,
         options,
-        trees,
+        &lent.trees,
         environment,
         makefiles,
         outfit,
@@ -407,12 +408,13 @@ pub(crate) fn make<R: Threads + Wait + Sync>(
     host: HostRuntime,
     options: Options,
     later: Later,
+    log: Option<&HostLog>,
     environment: &[Variable],
     input: Option<&[u8]>,
 ) -> Result<u8, AllocError>
     requires { AsksToRun options (value_in environment.now (codes "MAKEFLAGS")) }
 {
-    let lent = match Lent::of(host, &options, later, environment) {
+    let lent = match Lent::of(host, &options, later, log, environment) {
         Ok(lent) => lent,
         Err(error) => {
             drop(options);
@@ -420,15 +422,7 @@ pub(crate) fn make<R: Threads + Wait + Sync>(
         }
     };
     let mut makefiles = HostFiles::texts(host, options.profile, input, &lent.env, &lent.folders);
-    let made = make_read(
-        rt,
-        host,
-        options,
-        later,
-        &lent.trees,
-        environment,
-        &mut makefiles,
-    );
+    let made = make_read(rt, host, options, later, &lent, environment, &mut makefiles);
     drop(makefiles);
     drop(lent);
     made

@@ -1,5 +1,6 @@
 //! What a run has of this machine, found before a makefile is made of anything.
 
+use crate::logging::{HostLog, is_on_output};
 use crate::state_lock::LockPlace;
 use bd_lists::Variable;
 use dmk_files::FileTexts;
@@ -28,13 +29,14 @@ pub(crate) type HostPrinter<'a, R> = Printer<
     BufWriter<Patient<Stderr>>,
 >;
 
-/// What makefiles are read with.
+/// What makefiles are read with, and the log of the run.
 #[derive(Drop)]
-pub(crate) struct Lent {
+pub(crate) struct Lent<'a> {
     /// What commands of definitions have in their environment.
     pub(crate) env: Vec<Variable>,
     pub(crate) folders: IncludeFolders,
     pub(crate) trees: HostTrees,
+    pub(crate) log: Option<&'a HostLog>,
 }
 
 /// What a run has of this machine, found before a makefile is made of anything.
@@ -60,14 +62,15 @@ struct Places {
     pool: PoolPath,
 }
 
-impl Lent {
+impl<'a> Lent<'a> {
     /// A run in the wide profile waits first for who cleans up behind a stopped one.
     pub(crate) fn of(
         host: HostRuntime,
         options: &Options,
         later: Later,
+        log: Option<&'a HostLog>,
         environment: &[Variable],
-    ) -> Result<Lent, AllocError> {
+    ) -> Result<Lent<'a>, AllocError> {
         if options.profile.is_wide() {
             wait_for_janitors(host, options.state.as_str())?;
         }
@@ -78,6 +81,7 @@ impl Lent {
             env,
             folders,
             trees,
+            log,
         })
     }
 }
@@ -126,8 +130,8 @@ fn writes_of(options: &Options, later: Later) -> Writes {
     }
 }
 
-/// Where a run shows how far it is: in a status line, unless recipes write on the standard streams too, and in lines of a log that was asked
-/// for.
+/// Where a run shows how far it is: in a status line, unless recipes or the log write on the standard streams too, and in lines between what
+/// else is printed, where these were asked for.
 fn shown_of(
     host: HostRuntime,
     environment: &[Variable],
@@ -156,12 +160,15 @@ fn host_printer<'a, R: Wait>(
     turns: &'a Turns,
     writes: Writes,
     shown: Shown,
+    log: Option<&'a HostLog>,
 ) -> Result<HostPrinter<'a, R>, AllocError> {
     let alloc = host.alloc();
     let out = buffered(alloc, with_patience(host, host.stdout()))?;
     let err = buffered(alloc, with_patience(host, host.stderr()))?;
     let front = front_of(host, writes);
-    Ok(Printer::new(rt, alloc, turns, out, err, shown, front))
+    let mut printer = Printer::new(rt, alloc, turns, out, err, shown, front);
+    printer.log_to(log);
+    Ok(printer)
 }
 
 /// The printer of a run that these words ask for.
@@ -171,17 +178,18 @@ fn printer_of<'a, R: Wait>(
     turns: &'a Turns,
     options: &Options,
     later: Later,
+    log: Option<&'a HostLog>,
     environment: &[Variable],
 ) -> Result<HostPrinter<'a, R>, AllocError> {
     let writes = writes_of(options, later);
     let shown = shown_of(
         host,
         environment,
-        options.is_silent,
+        options.is_silent || is_on_output(log),
         writes,
         later.prints_ends,
     );
-    host_printer(rt, host, turns, writes, shown)
+    host_printer(rt, host, turns, writes, shown, log)
 }
 
 /// What a run has of this machine beside its printer.
@@ -209,10 +217,11 @@ pub(crate) fn outfit_of<'a, R: Wait>(
     turns: &'a Turns,
     options: &Options,
     later: Later,
+    log: Option<&'a HostLog>,
     environment: &[Variable],
 ) -> Result<Outfit<'a, R>, AllocError> {
     let (places, handed) = places_and_handed(host, options, later, environment)?;
-    let printer = match printer_of(rt, host, turns, options, later, environment) {
+    let printer = match printer_of(rt, host, turns, options, later, log, environment) {
         Ok(printer) => printer,
         Err(error) => {
             drop(handed);

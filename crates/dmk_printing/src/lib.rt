@@ -6,6 +6,7 @@ mod following;
 mod front;
 mod held;
 mod lending;
+mod logging;
 mod news;
 mod printer;
 mod queue;

@@ -2,12 +2,13 @@
 //! through a writer with a buffer it is one write, as long as it fits.
 ghost use Rattle.mk_eval.specs.Output.{World};
 
-use crate::counts::Counts;
 use crate::front::Front;
+use crate::logging::{log_news, log_step};
 use crate::queue::Due;
 use crate::streams::Streams;
 use crate::trusted::Trusted;
 use bd_lists::Ended;
+use dmk_log::Log;
 use dmk_messages::{Cure, Message, print_fault, print_lines, print_note};
 use dmk_status::{Shown, StatusLine, Terminal};
 use jb_closing::RunFault;
@@ -24,15 +25,16 @@ use std::time::Duration;
 
 /// Prints lines and blocks on one stream, and faults and notes on another. What can't be printed ends no run.
 pub struct Printer<'a, R: Wait, O: Write + Drop, E: Write + Drop> {
-    rt: &'a R,
+    pub(crate) rt: &'a R,
     turns: &'a Turns,
-    streams: Mutex<Streams<O, E>>,
+    pub(crate) streams: Mutex<Streams<O, E>>,
     /// The one that the status line is drawn on.
     terminal: Option<Terminal>,
     /// Told once the run is over.
     over: Condvar,
     /// Where what recipes write is printed as it comes, one of them at a time.
     front: Option<Front>,
+    pub(crate) log: Option<&'a Log<O>>,
 }
 
 impl<'a, R: Wait, O: Write + Drop, E: Write + Drop> Drop for Printer<'a, R, O, E> {
@@ -44,6 +46,7 @@ impl<'a, R: Wait, O: Write + Drop, E: Write + Drop> Drop for Printer<'a, R, O, E
             terminal: _,
             over: _,
             front: _,
+            log: _,
         } = self;
     }
 }
@@ -74,6 +77,7 @@ impl<'a, R: Wait, O: Write + Drop, E: Write + Drop> Printer<'a, R, O, E> {
             terminal,
             over: Condvar::new(),
             front,
+            log: None,
         }
     }
 
@@ -86,17 +90,13 @@ impl<'a, R: Wait, O: Write + Drop, E: Write + Drop> Printer<'a, R, O, E> {
             terminal: _,
             over: _,
             front,
+            log: _,
         } = self;
         let mut streams = streams.into_inner();
         if let Some(front) = front {
             front.print_rest(&mut streams);
         }
         streams.apart()
-    }
-
-    /// A part of the run has ended, whose recipes came to this.
-    pub fn count(&self, counts: Counts) {
-        self.streams.lock(self.rt).count(counts);
     }
 
     /// The run is over: its status line goes. Says once more which targets failed, where other lines stand behind that, and how many of
@@ -301,6 +301,11 @@ impl<'a, R: Wait, O: Write + Drop, E: Write + Drop> Printer<'a, R, O, E> {
 
 impl<R: Wait, O: Write + Drop, E: Write + Drop> Say for Printer<'_, R, O, E> {
     fn line(&self, text: &[u8]) {
+        if let Some(log) = self.log {
+            if log.line(self.rt, text) {
+                return;
+            }
+        }
         self.streams.lock(self.rt).line(text);
     }
 
@@ -309,6 +314,11 @@ impl<R: Wait, O: Write + Drop, E: Write + Drop> Say for Printer<'_, R, O, E> {
     }
 
     fn tell(&self, news: News<'_>) {
+        if let Some(log) = self.log {
+            if log_news(self.rt, log, news) {
+                return;
+            }
+        }
         self.streams.lock(self.rt).tell(news);
     }
 
@@ -317,6 +327,9 @@ impl<R: Wait, O: Write + Drop, E: Write + Drop> Say for Printer<'_, R, O, E> {
     }
 
     fn step(&self, step: Step<'_>) {
+        if let Some(log) = self.log {
+            log_step(self.rt, log, step);
+        }
         if let Some(front) = &self.front {
             self.follow(front, step);
         }

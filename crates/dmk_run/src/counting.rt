@@ -83,7 +83,7 @@ fn counts_of(
     Ok(counts)
 }
 
-/// Counts what a run over the graph came to, in the wide profile.
+/// Counts what a run over the graph came to: for its log, and in the wide profile to be told.
 pub(crate) fn count<R: Wait, O: Write + Drop, W: Write + Drop>(
     alloc: Global,
     counting: bool,
@@ -91,12 +91,13 @@ pub(crate) fn count<R: Wait, O: Write + Drop, W: Write + Drop>(
     printer: &Printer<'_, R, O, W>,
     found: &Result<Report, RunFault>,
 ) {
-    if !graph.macros.profile().is_wide() {
+    let is_told = graph.macros.profile().is_wide();
+    if !is_told && !printer.is_logged() {
         return;
     }
     if let Ok(report) = found {
         if let Ok(counts) = counts_of(alloc, counting, graph, &report.ends) {
-            printer.count(counts);
+            printer.count(counts, is_told);
         }
     }
 }

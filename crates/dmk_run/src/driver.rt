@@ -247,7 +247,7 @@ pub fn build_at_once<M: Machine, E: Exec<Receipt> + Sync, D: Disk + Drop + Send>
         is_silent,
         ignores_statuses,
         makes_all,
-        telling,
+        telling: means.say.telling(telling, makes_all),
     };
     let goals = Goals {
         profile,

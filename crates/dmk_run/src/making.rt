@@ -72,6 +72,7 @@ fn make_listed<M: Machine, E: Exec<Receipt> + Sync, D: Disk + Drop + Send>(
         }
     };
     let workers = wishes.workers(&graph.settings);
+    means.say.log_names(&graph.names, &graph.hard);
     let counting = conduct.counts_records;
     let newest = conduct.form;
     let store = StoreIn { log, state, newest };
@@ -112,6 +113,10 @@ pub(crate) fn make<M: Machine, E: Exec<Receipt> + Sync, D: Disk + Drop + Send>(
     ensures parted { IfErr result.0 (λ stop. IsParted stop → result.1 ≡ log.disk) }
     ensures let_go { M.Banks.serves banks.old ≡ false → M.Banks.serves banks.new ≡ false }
 {
+    let state = plan.conduct.keeps_state.then_some(wishes.state.as_str());
+    means
+        .say
+        .log_run(wishes.workers(&plan.graph.settings), state);
     if !is_none_to_run(alloc, &plan, means.say) {
         if let Err(stop) = ready_recipes(
             alloc,

@@ -433,6 +433,14 @@ fn folders_of(alloc: Global, found: &ArgMatches<'_>) -> Result<Vec<String>, Allo
     Ok(folders)
 }
 
+/// Where the log goes, if one is asked for.
+fn log_of(alloc: Global, found: &ArgMatches<'_>) -> Result<Option<String>, AllocError> {
+    match found.get_str("log") {
+        Some(file) => Ok(Some(String::from_str(alloc, file)?)),
+        None => Ok(None),
+    }
+}
+
 /// Whether the folder is told: -w asks for it, and so does -C, but for -s and where it is told not to. A question prints nothing.
 fn tells_folder(found: &ArgMatches<'_>) -> bool {
     if found.contains_id("asks") || found.contains_id("untold") {
@@ -444,9 +452,11 @@ fn tells_folder(found: &ArgMatches<'_>) -> bool {
 fn asked_of(alloc: Global, found: &ArgMatches<'_>, above: Above) -> Result<Asked, AllocError> {
     let named = named_workers(found);
     let folders = folders_of(alloc, found)?;
+    let log = log_of(alloc, found)?;
     let mut options = options_of(alloc, found, named.unwrap_or(above.workers))?;
     if let Err(error) = add_words(alloc, found, &mut options) {
         drop(options);
+        drop(log);
         drop(folders);
         return Err(error);
     }
@@ -455,6 +465,7 @@ fn asked_of(alloc: Global, found: &ArgMatches<'_>, above: Above) -> Result<Asked
         tells_folder: tells_folder(found),
         program: None,
         later: later_of(found, named.is_some() || above.is_said),
+        log,
         options,
     })
 }

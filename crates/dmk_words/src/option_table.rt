@@ -73,7 +73,7 @@ pub const TOUCHED: &str = "-W (--what-if)";
 /// How the option is looked for by which files are taken as old.
 pub const OLD: &str = "-o (--old-file)";
 
-static OPTIONS: [Row; 34] = [
+static OPTIONS: [Row; 35] = [
     Row {
         id: "folders",
         letter: Some('C'),
@@ -301,6 +301,16 @@ static OPTIONS: [Row; 34] = [
         role: Role::Told(
             TELLING,
             "Print a line for each recipe that has ended, as\n[3/17] TARGET, where standard output is no terminal",
+        ),
+    },
+    Row {
+        id: "log",
+        letter: None,
+        words: &["log"],
+        takes: Takes::Value("FILE"),
+        role: Role::Told(
+            TELLING,
+            "Add to FILE a line of JSON for each event of a run:\nwhy a recipe is run, when it begins and ends;\n- is standard output",
         ),
     },
     Row {

@@ -24,6 +24,8 @@ pub struct Asked {
     /// The text of MAKE in the wide profile, where the path of the program is known.
     pub program: Option<Vec<u8>>,
     pub later: Later,
+    /// Where the log of the run goes, if one is asked for.
+    pub log: Option<String>,
     pub options: Options,
 }
 
