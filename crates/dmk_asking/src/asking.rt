@@ -3,6 +3,7 @@ ghost use Rattle.std.specs.Prelude.{codes};
 ghost use Rattle.dmk_reading.specs.Keeping.{value_in};
 ghost use Rattle.dmk_reading.specs.Asked.{AsksToLook};
 
+use crate::levels::HostLevels;
 use crate::options_again::options_again;
 use crate::shell_asked::ShellSource;
 use bd_lists::Variable;
@@ -13,17 +14,23 @@ use dmk_host::{
     needs_usual_makefile, print_cure, print_gnu_makefile, print_notes, print_reasons,
     tell_definitions, with_locks_told, with_patience,
 };
+use dmk_levels::kept_items;
 use dmk_messages::{Cure, Fault, Message, print_fault};
 use dmk_reading::{Mode, Options, value_of};
+use dmk_taking::{Taking, take_known};
 use dmk_words::Later;
 use mk_eval::Includes;
+use mk_levels::{Level, told_known};
 use mk_rules::Tree;
 use plain_text::write_plain;
 use st_disk::{Disk, FileDisk, SystemFolder, Which};
+use st_file::read_whole;
+use st_memory::MemDisk;
 use st_records::HashKey;
 use std::alloc::{AllocError, Global};
+use std::io::{self, Write};
+use std::thread;
 use std::time::Duration;
-use std::{io, thread};
 
 /// How often a fault is looked for at most, where each time it is another one.
 const MAX_LOOKS: usize = 100;
@@ -65,8 +72,23 @@ impl Drop for Look {
 #[derive(Drop)]
 struct Room {
     folder: SystemFolder,
+    levels: HostLevels,
     /// It has what -p prints, and room for a fault.
     look: Look,
+}
+
+/// What other levels know, and what a disk has, in memory.
+fn read_beside<W: Write, D: Disk>(
+    alloc: Global,
+    levels: &HostLevels,
+    err: &mut W,
+    disk: &mut D,
+) -> Option<(Vec<Level>, MemDisk)> {
+    let levels = levels.read(err).ok()?;
+    let a = read_whole(alloc, disk, Which::A).ok()?;
+    let b = read_whole(alloc, disk, Which::B).ok()?;
+    let memory = MemDisk::holding(alloc, &a, &b).ok()?;
+    Some((levels, memory))
 }
 
 impl Room {
@@ -78,6 +100,7 @@ impl Room {
     ) -> Result<Room, AllocError> {
         let alloc = host.alloc();
         let folder = SystemFolder::new(host, alloc, options.state.as_str())?;
+        let levels = HostLevels::of(host, options, environment)?;
         let err = Vec::with_capacity(alloc, FAULT_BYTES.saturating_add(options.state.len()))?;
         let out = base_asked(host, options, environment, makefiles)?;
         let look = Look {
@@ -88,7 +111,11 @@ impl Room {
             cure: None,
             always: Vec::new(alloc),
         };
-        Ok(Room { folder, look })
+        Ok(Room {
+            folder,
+            levels,
+            look,
+        })
     }
 }
 
@@ -105,18 +132,34 @@ impl Look {
     {
         let is_usual = needs_usual_makefile(&options);
         let profile = options.profile;
-        let Room { folder, mut look } = room;
+        let Room {
+            folder,
+            levels,
+            mut look,
+        } = room;
         let trees = match HostTrees::of(host, &options) {
             Ok(trees) => trees,
             Err(error) => {
                 drop(options);
+                drop(levels);
                 drop(look);
                 return Err(error);
             }
         };
+        let before = trees.tree();
         let tree = trees.tree();
         let disk = FileDisk::new(folder);
-        let (is_told, disk) = look.take(host, options, environment, tree, makefiles, disk);
+        let (is_told, disk) = look.take_behind(
+            host,
+            options,
+            environment,
+            &levels,
+            before,
+            tree,
+            makefiles,
+            disk,
+        );
+        drop(levels);
         let state = disk.folder.name(Which::A);
         print_cure(host, &mut look.err, profile, state, look.cure);
         print_notes(host.alloc(), &mut look.err, makefiles);
@@ -130,6 +173,96 @@ impl Look {
         }
         drop(look);
         Err(AllocError)
+    }
+
+    /// Takes what is listed or answered behind a taking over of what other levels know, which writes nothing: it is made over a disk in
+    /// memory. Whether all was told, and the disk.
+    ///
+    /// The parts of this machine are of any types here: made concrete once, at the call.
+    fn take_behind<T: Tree + Drop, I: Includes, D: Disk>(
+        &mut self,
+        host: HostRuntime,
+        options: Options,
+        environment: &[Variable],
+        levels: &HostLevels,
+        before: T,
+        tree: T,
+        makefiles: &mut I,
+        disk: D,
+    ) -> (bool, D)
+        requires { AsksToLook options (value_in environment.now (codes "MAKEFLAGS")) }
+    {
+        let mut disk = disk;
+        let mut before = before;
+        let taken = if levels.is_empty() {
+            None
+        } else {
+            self.take_known(
+                host,
+                &options,
+                environment,
+                levels,
+                &mut before,
+                makefiles,
+                &mut disk,
+            )
+        };
+        drop(before);
+        match taken {
+            Some(memory) => {
+                let (is_told, memory) = self.take(
+                    host,
+                    options,
+                    environment,
+                    tree,
+                    makefiles,
+                    memory,
+                );
+                drop(memory);
+                (is_told, disk)
+            }
+            None => self.take(host, options, environment, tree, makefiles, disk),
+        }
+    }
+
+    /// The state's disk with what is taken over from other levels, in memory; None where nothing is. What is to be told of it stands in front
+    /// of the listing.
+    fn take_known<T: Tree, I: Includes, D: Disk>(
+        &mut self,
+        host: HostRuntime,
+        options: &Options,
+        environment: &[Variable],
+        levels: &HostLevels,
+        tree: &mut T,
+        makefiles: &mut I,
+        disk: &mut D,
+    ) -> Option<MemDisk> {
+        let alloc = host.alloc();
+        let items = kept_items(alloc, environment, options, tree, makefiles)?;
+        let read = read_beside(alloc, levels, &mut self.err, disk);
+        let Some((levels, memory)) = read else {
+            drop(items);
+            return None;
+        };
+        let (found, memory) = take_known(
+            alloc,
+            HashKey::from_system(&host),
+            environment,
+            options,
+            &levels,
+            tree,
+            makefiles,
+            items,
+            memory,
+        );
+        let Ok(Taking::Taken(records)) = found else {
+            drop(memory);
+            return None;
+        };
+        let text = told_known(alloc, options.telling, &levels, &records).ok()?;
+        self.out.extend_from_slice(&text).ok()?;
+        self.before = self.out.len();
+        Some(memory)
     }
 
     /// Takes what is listed or answered. Whether all was told, and the disk.

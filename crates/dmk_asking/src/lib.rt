@@ -2,7 +2,9 @@
 #![tactic(auto)]
 
 mod asking;
+mod levels;
 mod options_again;
 mod shell_asked;
 
 pub use asking::ask;
+pub use levels::HostLevels;

@@ -5,6 +5,9 @@ use std::alloc::AllocError;
 use std::fs;
 use std::os::unix::fs::MetadataExt;
 
+/// How many levels below a run's own are looked for at most.
+const MAX_LEVELS: usize = 64;
+
 /// The path of the lock on the state of this name: beside the file, and of a link beside what it leads to, so that a state has one
 /// lock under all its names.
 pub fn lock_path(rt: HostRuntime, state: &str) -> Result<String, AllocError> {
@@ -58,6 +61,41 @@ pub fn first_free(rt: HostRuntime, above: &str, state: &str) -> Result<String, A
         name = format!(in rt.alloc(); "{name}.1")?;
     }
     Ok(name)
+}
+
+/// The name of the level below a state's, which a run above has; None where there is none.
+fn level_above(rt: HostRuntime, above: &str, state: &str) -> Result<Option<String>, AllocError> {
+    match state.strip_suffix(".1") {
+        Some(name) if is_held_above(rt, above, name)? => Ok(Some(String::from_str(
+            rt.alloc(),
+            name,
+        )?)),
+        _ => Ok(None),
+    }
+}
+
+/// The states that are there of other levels than this one's: first those that the runs above have, the nearest first, then those below
+/// it. One is looked for behind another.
+pub fn other_levels(rt: HostRuntime, above: &str, state: &str) -> Result<Vec<String>, AllocError> {
+    let alloc = rt.alloc();
+    let mut levels = Vec::new(alloc);
+    let mut name = String::from_str(alloc, state)?;
+    for _ in above.split(' ') {
+        let Some(next) = level_above(rt, above, name.as_str())? else {
+            break;
+        };
+        levels.push(String::from_str(alloc, next.as_str())?)?;
+        name = next;
+    }
+    name = String::from_str(alloc, state)?;
+    for _ in 0..MAX_LEVELS {
+        name = format!(in alloc; "{name}.1")?;
+        if fs::symlink_metadata(&rt, name.as_str()).is_err() {
+            break;
+        }
+        levels.push(String::from_str(alloc, name.as_str())?)?;
+    }
+    Ok(levels)
 }
 
 /// The names of the locks that those below find taken: those of the runs above, and that on the state of this name, where it has a file.

@@ -7,7 +7,7 @@ mod presence;
 mod run_name;
 mod stopping;
 
-pub use levels::{first_free, lock_path, told_below};
+pub use levels::{first_free, lock_path, other_levels, told_below};
 pub use lock_file::{LockFile, Tried, is_refusal};
 pub use presence::presence_of;
 pub use run_name::{is_open_above, is_over, own_name};

@@ -3,6 +3,7 @@
 
 mod asked;
 mod duty;
+mod levels;
 mod logging;
 mod making;
 mod outfit;

@@ -4,11 +4,13 @@ ghost use Rattle.dmk_reading.specs.Keeping.{value_in};
 ghost use Rattle.dmk_reading.specs.Asked.{AsksToRun};
 
 use crate::duty::duty_of;
+use crate::levels::take_levels;
 use crate::logging::HostLog;
 use crate::outfit::{HostPrinter, Lent, Outfit, base_told, outfit_of};
 use crate::state_lock::StateLock;
 use bd_flusher::Receipt;
 use bd_lists::{Exec, Variable};
+use dmk_asking::HostLevels;
 use dmk_files::{FileTexts, FileTree};
 use dmk_host::{
     HostFiles, HostTrees, Patient, TrustedPlace, needs_usual_makefile, print_cure,
@@ -159,6 +161,7 @@ fn make_over<'m, M: Machine, E: Exec<Receipt> + Sync, Q: Place, D: Disk + Drop +
     guard: &mut M::Guard,
     options: Options,
     trusted: Option<&Q>,
+    levels: &HostLevels,
     looks: &M::Looks,
     makefiles: &mut M::Includes,
     banks: &mut M::Banks,
@@ -178,6 +181,26 @@ fn make_over<'m, M: Machine, E: Exec<Receipt> + Sync, Q: Place, D: Disk + Drop +
             &options,
             &mut tree,
             place,
+            makefiles,
+            disk,
+        );
+        if let Err(status) = found {
+            drop(options);
+            return (status, same);
+        }
+        disk = same;
+    }
+    if !levels.is_empty() {
+        let mut tree = looks.anew();
+        let (found, same) = take_levels::<M, D>(
+            alloc,
+            means.key,
+            means.environment,
+            means.say,
+            guard,
+            &options,
+            levels,
+            &mut tree,
             makefiles,
             disk,
         );
@@ -214,6 +237,7 @@ fn make_by_shell<'m, M: Machine, H: Hears + Sync, X, Q: Place, D: Disk + Drop + 
     guard: &mut M::Guard,
     options: Options,
     trusted: Option<&Q>,
+    levels: &HostLevels,
     looks: &M::Looks,
     makefiles: &mut M::Includes,
     banks: &mut M::Banks,
@@ -234,7 +258,8 @@ fn make_by_shell<'m, M: Machine, H: Hears + Sync, X, Q: Place, D: Disk + Drop + 
         shell: means.shell,
     };
     make_over::<M, Shell<'_, M::Runtime, H>, Q, D>(
-        rt, alloc, &means, handed, sharing, guard, options, trusted, looks, makefiles, banks, disk,
+        rt, alloc, &means, handed, sharing, guard, options, trusted, levels, looks, makefiles,
+        banks, disk,
     )
 }
 
@@ -264,6 +289,7 @@ fn make_with<'a, 'f, R: Threads + Wait + Sync>(
         printer,
         writes,
         trusts_files,
+        levels,
     } = outfit;
     let alloc = host.alloc();
     let is_usual = needs_usual_makefile(&options);
@@ -305,6 +331,7 @@ fn make_with<'a, 'f, R: Threads + Wait + Sync>(
         &mut guard,
         options,
         trusts_files.then_some(&trusted),
+        &levels,
         &looks,
         makefiles,
         &mut banks,

@@ -3,6 +3,7 @@
 use crate::logging::{HostLog, is_on_output};
 use crate::state_lock::LockPlace;
 use bd_lists::Variable;
+use dmk_asking::HostLevels;
 use dmk_files::FileTexts;
 use dmk_host::{
     HostFiles, HostTrees, IncludeFolders, Patient, PoolPath, base_asked, beside_recipes, buffered,
@@ -51,6 +52,8 @@ pub(crate) struct Outfit<'a, R: Wait> {
     pub(crate) writes: Writes,
     /// Targets are taken as they are before the run, where nothing is recorded of any.
     pub(crate) trusts_files: bool,
+    /// The states whose targets are taken over before the run.
+    pub(crate) levels: HostLevels,
 }
 
 /// Where the state lies, and what stands beside it.
@@ -60,6 +63,7 @@ struct Places {
     folder: SystemFolder,
     reports: String,
     pool: PoolPath,
+    levels: HostLevels,
 }
 
 impl<'a> Lent<'a> {
@@ -98,11 +102,13 @@ impl Places {
         let folder = SystemFolder::new(host, host.alloc(), state)?;
         let reports = reports_path(host, options.profile, state)?;
         let pool = PoolPath::new(host, state, flags, usize::from(options.workers))?;
+        let levels = HostLevels::of(host, options, environment)?;
         Ok(Places {
             lock,
             folder,
             reports,
             pool,
+            levels,
         })
     }
 }
@@ -234,6 +240,7 @@ pub(crate) fn outfit_of<'a, R: Wait>(
         folder,
         reports,
         pool,
+        levels,
     } = places;
     Ok(Outfit {
         folder,
@@ -244,5 +251,6 @@ pub(crate) fn outfit_of<'a, R: Wait>(
         printer,
         writes: writes_of(options, later),
         trusts_files: later.trusts_files,
+        levels,
     })
 }
