@@ -26,8 +26,7 @@ WAITING = {
 WAITING_EXPORTS = {
     "bl_log": {"Ranked", "lanes"},
     # Types of fields that others read.
-    "bl_reading": {"End", "Fault", "Refusal", "read_log"},
-    "bl_reports": {"page", "stats", "trace"},
+    "bl_reading": {"End"},
     "jb_marks": {"Known", "MemorySights", "Placed", "is_same"},
     "jb_slots": {"Fifo", "dry"},
     # What a target alone has, behind its colon, is read by it.

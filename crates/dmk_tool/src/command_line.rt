@@ -1,5 +1,6 @@
 //! The words, as clap reads them.
 
+use crate::log_words::{log_asked, stats, timeline};
 use crate::request::{Asked, Cleaning, Question, Request, Topic, WordsFault};
 use crate::words::{Words, is_text};
 use clap::error::ErrorKind;
@@ -52,7 +53,7 @@ fn program<'a>(alloc: Global) -> Result<Command<'a>, AllocError> {
     let command = command
         .version("0.2.0")
         .about(
-            "Answers questions to the state that dmk keeps of its targets, and removes their files",
+            "Answers questions to the state that dmk keeps of its targets and to its build logs, and removes the targets' files",
         )
         .after_help(AFTER)
         .subcommand_required(true)
@@ -62,7 +63,9 @@ fn program<'a>(alloc: Global) -> Result<Command<'a>, AllocError> {
     let command = with(command, compdb(alloc))?;
     let command = with(command, list(alloc))?;
     let command = with(command, graph(alloc))?;
-    with(command, clean(alloc))
+    let command = with(command, clean(alloc))?;
+    let command = with(command, stats(alloc))?;
+    with(command, timeline(alloc))
 }
 
 // The questions of names.
@@ -219,6 +222,9 @@ fn asked(alloc: Global, words: &Words, found: &ArgMatches<'_>) -> Result<Request
     let Some((name, found)) = found.subcommand() else {
         return Ok(Request::Leave(2));
     };
+    if name == "stats" || name == "timeline" {
+        return log_asked(alloc, name, found);
+    }
     let file = found.get_str("state").unwrap_or(DEFAULT_FILE);
     if !is_text(file) {
         return Err(WordsFault::NotText);

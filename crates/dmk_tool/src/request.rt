@@ -50,9 +50,30 @@ pub struct Asked {
     pub question: Question,
 }
 
+/// A build log, and what is told of it.
+#[derive(Drop)]
+pub struct LogAsked {
+    pub log: String,
+    /// Which run of it, counted from 1; the last one where there is none.
+    pub run: Option<usize>,
+    pub form: LogForm,
+}
+
+/// How a run is told.
+#[derive(Drop)]
+pub enum LogForm {
+    Stats,
+    /// A page and a trace, in these files; the page on standard output where there is neither.
+    Timeline {
+        page: Option<String>,
+        trace: Option<String>,
+    },
+}
+
 #[derive(Drop)]
 pub enum Request {
     Ask(Asked),
+    Read(LogAsked),
     /// Nothing more: what there was to say was said. The program ends with this status.
     Leave(u8),
 }
