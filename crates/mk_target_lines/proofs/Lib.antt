@@ -1,0 +1,5 @@
+mod ComeLemmas
+mod LawLemmas
+mod LineLemmas
+mod NameLemmas
+mod PartLemmas
