@@ -132,6 +132,7 @@ impl Functions {
             "statements" => say_statements(alloc, text, out),
             "take" => self.setting.say_taken(alloc, text, b"", out),
             "read" => self.setting.say_read(alloc, text, out),
+            "line" => self.setting.say_line(alloc, text, None, out),
             "argument" => self.setting.say_given(alloc, text, out),
             "environment" => self.setting.say_environment(alloc, text, out),
             "depfile" => say_names(alloc, text, out),
@@ -149,6 +150,9 @@ impl Functions {
         match given {
             [text] => self.of_text(alloc, name, text, out),
             [first, text] if name == "take" => self.setting.say_taken(alloc, first, text, out),
+            [text, recipe] if name == "line" => self
+                .setting
+                .say_line(alloc, text, Some(recipe), out),
             [first, text] => of_two(alloc, name, first, text, out),
             [first, second, text] => of_three(alloc, name, first, second, text, out),
             _ => Err(RowFault::Word),

@@ -14,6 +14,7 @@ mod outside;
 mod readings;
 mod statements;
 mod tables;
+mod target_lines;
 mod texts;
 mod variables;
 
