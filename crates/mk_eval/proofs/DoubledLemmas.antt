@@ -77,30 +77,30 @@ module _ (wide : Bool) (meaning : List ℕ → Meaning) where
       ∙ ap (λ xs. first (plain xs) (drop (length (b ∷ run)) whole)) (take_at (b ∷ run) (36 ∷ text) (length (b ∷ run)) refl)
       ∙ ap (first (plain (b ∷ run))) (drop-append_seam (b ∷ run) (36 ∷ text))
 
-  run_ends : (made run : List ℕ) → IsPlain run → length (made ++ run) ≤ limit → Gives made run (made ++ run)
+  run_ends : (made run : List ℕ) → IsPlain run → length (made ++ run) ≤ limit wide → Gives made run (made ++ run)
   run_ends made [] h fits = subst (Gives made []) (sym (append-nil made)) (ends refl)
   run_ends made (b ∷ run) h fits = goes_on (plain (b ∷ run)) [] (b ∷ run) (front_ends b run h) adds_bytes fits (ends refl)
 
-  run_then : (made run text bytes : List ℕ) → IsPlain run → length (made ++ run) ≤ limit → Gives (made ++ run) (36 ∷ text) bytes → Gives made (run ++ 36 ∷ text) bytes
+  run_then : (made run text bytes : List ℕ) → IsPlain run → length (made ++ run) ≤ limit wide → Gives (made ++ run) (36 ∷ text) bytes → Gives made (run ++ 36 ∷ text) bytes
   run_then made [] text bytes h fits later = subst (λ m. Gives m (36 ∷ text) bytes) (append-nil made) later
   run_then made (b ∷ run) text bytes h fits later = goes_on (plain (b ∷ run)) (36 ∷ text) (b ∷ run) (front_stops b run text h) adds_bytes fits later
 
-  dollar_then : (made text bytes : List ℕ) → length (made ++ 36 ∷ []) ≤ limit → Gives (made ++ 36 ∷ []) text bytes → Gives made (36 ∷ 36 ∷ text) bytes
+  dollar_then : (made text bytes : List ℕ) → length (made ++ 36 ∷ []) ≤ limit wide → Gives (made ++ 36 ∷ []) text bytes → Gives made (36 ∷ 36 ∷ text) bytes
   dollar_then made text bytes fits later = goes_on (plain (36 ∷ [])) text (36 ∷ []) refl adds_bytes fits later
 
   -- behind bytes that are read but not yet made anything of
-  pub doubled_from : (text made run : List ℕ) → IsPlain run → length (made ++ (run ++ text)) ≤ limit → Gives made (run ++ doubled text) (made ++ (run ++ text))
+  pub doubled_from : (text made run : List ℕ) → IsPlain run → length (made ++ (run ++ text)) ≤ limit wide → Gives made (run ++ doubled text) (made ++ (run ++ text))
   doubled_from [] made run h fits =
-      subst (λ xs. Gives made xs (made ++ xs)) (sym (append-nil run)) (run_ends made run h (subst (λ xs. length (made ++ xs) ≤ limit) (append-nil run) fits))
+      subst (λ xs. Gives made xs (made ++ xs)) (sym (append-nil run)) (run_ends made run h (subst (λ xs. length (made ++ xs) ≤ limit wide) (append-nil run) fits))
   doubled_from (b ∷ more) made run h fits =
       either _ (b == 36)
       (λ e.
       let is : b ≡ 36 = (Decides-eqb b 36).0 e in
       let front = made ++ run in
       let one : (front ++ 36 ∷ []) ++ more ≡ made ++ (run ++ 36 ∷ more) = append_assoc front (36 ∷ []) more ∙ append_assoc made run (36 ∷ more) in
-      let all : length ((front ++ 36 ∷ []) ++ more) ≤ limit = subst (λ xs. length xs ≤ limit) (sym one) (subst (λ c. length (made ++ (run ++ c ∷ more)) ≤ limit) is fits) in
-      let part : length (front ++ 36 ∷ []) ≤ limit = omega (arith, all, length-append (front ++ 36 ∷ []) more) in
-      let less : length front ≤ limit = omega (arith, part, length-append front (36 ∷ [])) in
+      let all : length ((front ++ 36 ∷ []) ++ more) ≤ limit wide = subst (λ xs. length xs ≤ limit wide) (sym one) (subst (λ c. length (made ++ (run ++ c ∷ more)) ≤ limit wide) is fits) in
+      let part : length (front ++ 36 ∷ []) ≤ limit wide = omega (arith, all, length-append (front ++ 36 ∷ []) more) in
+      let less : length front ≤ limit wide = omega (arith, part, length-append front (36 ∷ [])) in
       let later = subst (Gives (front ++ 36 ∷ []) (doubled more)) one (doubled_from more (front ++ 36 ∷ []) [] refl all) in
       subst (λ c. Gives made (run ++ doubled (c ∷ more)) (made ++ (run ++ c ∷ more))) (sym is)
       (run_then made run (36 ∷ doubled more) (made ++ (run ++ 36 ∷ more)) h less (dollar_then front (doubled more) (made ++ (run ++ 36 ∷ more)) part later)))
@@ -108,8 +108,8 @@ module _ (wide : Bool) (meaning : List ℕ → Meaning) where
       let one : (run ++ b ∷ []) ++ more ≡ run ++ b ∷ more = append_assoc run (b ∷ []) more in
       let text : (run ++ b ∷ []) ++ doubled more ≡ run ++ doubled (b ∷ more) =
       append_assoc run (b ∷ []) (doubled more) ∙ ap (λ t. run ++ (cond t (36 ∷ b ∷ []) (b ∷ []) ++ doubled more)) (sym e) in
-      let later = doubled_from more made (run ++ b ∷ []) (plain_more run b h e) (subst (λ xs. length (made ++ xs) ≤ limit) (sym one) fits) in
+      let later = doubled_from more made (run ++ b ∷ []) (plain_more run b h e) (subst (λ xs. length (made ++ xs) ≤ limit wide) (sym one) fits) in
       subst (λ xs. Gives made xs (made ++ (run ++ b ∷ more))) text (subst (λ xs. Gives made ((run ++ b ∷ []) ++ doubled more) (made ++ xs)) one later))
 
-pub doubled_expands : (names : Meanings) (text : List ℕ) → length text ≤ limit → ExpandsTo names (doubled text) (gives text)
+pub doubled_expands : (names : Meanings) (text : List ℕ) → length text ≤ limit (is_wide names.language) → ExpandsTo names (doubled text) (gives text)
 doubled_expands names text fits = doubled_from (is_wide names.language) names.meaning text [] [] refl fits

@@ -3,6 +3,7 @@ ghost use Rattle.std.specs.Prelude.{◌≡◌, ◌≤◌, ℕ, length, List, Res
 ghost use Rattle.std.specs.declared.alloc.Global.{Global};
 ghost use Rattle.mk_macros.specs.Expansion.{Meanings, gives, limit, ExpandsTo};
 ghost use Rattle.mk_macros.specs.Ranks.{Defined, Listed, defined_by};
+ghost use Rattle.mk_profile.specs.Profile.{is_wide};
 ghost use Rattle.mk_reader.specs.Printed.{PlainItem, ArePlain, printed, items_on};
 ghost use Rattle.mk_reader.specs.declared.fault.ReadFault.{ReadFault};
 ghost use Rattle.mk_reader.specs.declared.item.Item.{Item};
@@ -27,7 +28,7 @@ pub fn an_outcome()
 
 /// A text that isn't expanded again is one whose dollars are doubled: whatever names stand for, it expands to what it came to.
 pub fn doubled_texts_expand_to_themselves()
-    ensures { (names : Meanings) (text : List ℕ) → length text ≤ limit → ExpandsTo names (doubled text) (gives text) }
+    ensures { (names : Meanings) (text : List ℕ) → length text ≤ limit (is_wide names.language) → ExpandsTo names (doubled text) (gives text) }
 {}
 
 /// What `read_makefile` says that it answers is that one outcome, unless memory ran out.

@@ -11,7 +11,7 @@ use Rattle.mk_macros.proofs.ExpansionLemmas.{Left, ahead, at_text, Waiting, IsEx
 module _ (wide : Bool) (meaning : List ℕ → Meaning) (root : List ℕ) (state : List ℕ → Progress) (cs : List Waiting) (made : List ℕ) (left : Left) (now : IsExpanding wide meaning root state cs made left) where
   -- a piece whose bytes couldn't be appended
   pub append_fault : (piece : Piece) (after added : List ℕ) → ahead wide left ≡ first piece after → AddsAnywhere wide meaning state root piece added →
-      (fault : MacroFault) → IsTooLongAt (length (made ++ added)) fault → MeetsFault wide meaning root fault
+      (fault : MacroFault) → IsTooLongAt (limit wide) (length (made ++ added)) fault → MeetsFault wide meaning root fault
   append_fault piece after added at adds OutOfMemory long = tt
   append_fault piece after added at adds (Loop name) long = absurd long
   append_fault piece after added at adds Unclosed long = absurd long
@@ -20,7 +20,7 @@ module _ (wide : Bool) (meaning : List ℕ → Meaning) (root : List ℕ) (state
   append_fault piece after added at adds TooLong long = piece_too_long wide meaning state root cs made left now piece after added at adds long
 
   module _ (name : List ℕ) (use_of : Use) (after : List ℕ) (at : ahead wide left ≡ first (reference name use_of) after) where
-    adds_at : (m : Meaning) → meaning name ≡ m → (p : Progress) → state name ≡ p → (added : List ℕ) → AddsNow (function_in wide name) m p use_of added →
+    adds_at : (m : Meaning) → meaning name ≡ m → (p : Progress) → state name ≡ p → (added : List ℕ) → AddsNow (limit wide) (function_in wide name) m p use_of added →
         AddsAnywhere wide meaning state root (reference name use_of) added
     adds_at undefined is p q added adds =
         subst (AddsAnywhere wide meaning state root (reference name use_of)) (sym adds.1) (λ all a. is_undefined is adds.0)
@@ -31,17 +31,17 @@ module _ (wide : Bool) (meaning : List ℕ → Meaning) (root : List ℕ) (state
     adds_at (defined text) is (known value) q added adds =
         subst (AddsAnywhere wide meaning state root (reference name use_of)) (sym adds) (known_adds wide meaning state root now.right name value use_of q)
 
-    adds : (added : List ℕ) → AddsNow (function_in wide name) (meaning name) (state name) use_of added → AddsAnywhere wide meaning state root (reference name use_of) added
+    adds : (added : List ℕ) → AddsNow (limit wide) (function_in wide name) (meaning name) (state name) use_of added → AddsAnywhere wide meaning state root (reference name use_of) added
     adds added a = adds_at (meaning name) refl (state name) refl added a
 
     -- what a reference adds is appended
-    pub reference_step : (added whole : List ℕ) → AddsNow (function_in wide name) (meaning name) (state name) use_of added → whole ≡ made ++ added → length whole ≤ limit →
+    pub reference_step : (added whole : List ℕ) → AddsNow (limit wide) (function_in wide name) (meaning name) (state name) use_of added → whole ≡ made ++ added → length whole ≤ limit wide →
         IsExpanding wide meaning root state cs whole (at_text after)
     reference_step added whole a is fits =
         subst (λ xs. IsExpanding wide meaning root state cs xs (at_text after)) (sym is)
-        (step wide meaning state root cs made left now (reference name use_of) after added at (adds added a) (subst (λ xs. length xs ≤ limit) is fits))
+        (step wide meaning state root cs made left now (reference name use_of) after added at (adds added a) (subst (λ xs. length xs ≤ limit wide) is fits))
 
-    long_at : (m : Meaning) → meaning name ≡ m → HasLongValue m → MeetsFault wide meaning root TooLong
+    long_at : (m : Meaning) → meaning name ≡ m → HasLongValue (limit wide) m → MeetsFault wide meaning root TooLong
     long_at undefined is long = absurd long
     long_at (dynamic value) is long =
         piece_fault wide meaning state root cs made left now (reference name use_of) after too_long at (is_long_dynamic value is long)
@@ -53,7 +53,7 @@ module _ (wide : Bool) (meaning : List ℕ → Meaning) (root : List ℕ) (state
         (loop_fault wide meaning state root cs made left now name use_of after is.0 at is.1 is_open)
 
     -- why nothing could be appended
-    pub reference_fault : (fault : MacroFault) → FailsNow (function_in wide name) (meaning name) (state name) use_of name made fault → MeetsFault wide meaning root fault
+    pub reference_fault : (fault : MacroFault) → FailsNow (limit wide) (function_in wide name) (meaning name) (state name) use_of name made fault → MeetsFault wide meaning root fault
     reference_fault OutOfMemory f = tt
     reference_fault (Loop n) f = loop_at n f.0 f.1 f.2
     reference_fault Unclosed f = absurd f

@@ -1,5 +1,5 @@
 -- An expansion that keeps the callers of a text in a list: what each of its states stands for.
-use Rattle.std.proofs.Common.{◌≡◌, ◌⊎◌, ℕ, ◌≤◌, ◌<◌, Bool, true, List, [], ◌∷◌, ◌++◌, length, refl, sym, ap, ◌∙◌, subst, inl, inr, ⊎_elim, bytes_eq, lit≤}
+use Rattle.std.proofs.Common.{◌≡◌, ◌⊎◌, ℕ, ◌≤◌, ◌<◌, Bool, true, List, [], ◌∷◌, ◌++◌, length, refl, sym, ap, ◌∙◌, subst, inl, inr, ⊎_elim, bytes_eq, arith}
 use Rattle.std.proofs.lemmas.Slice.Eq.{bytes_eq-Decides}
 use Rattle.std.proofs.lemmas.Bool.{cases_Bool, false≢true}
 use Rattle.mk_macros.specs.Reference.{Use, used, Piece, reference, nested, named, Front, nothing, first, front}
@@ -47,9 +47,9 @@ pub record SetsProgress (state : List ℕ → Progress) (name : List ℕ) (progr
 
 -- the ways on behind a piece
 pub data Goes (wide : Bool) (meaning : List ℕ → Meaning) (all : List (List ℕ)) (made : List ℕ) (piece : Piece) (rest : List ℕ) : Outcome → Type 0 where
-  then_on : {outcome : Outcome} (added : List ℕ) → Adds wide meaning all piece (gives added) → length (made ++ added) ≤ limit →
+  then_on : {outcome : Outcome} (added : List ℕ) → Adds wide meaning all piece (gives added) → length (made ++ added) ≤ limit wide →
       Expands wide meaning all (made ++ added) rest outcome → Goes wide meaning all made piece rest outcome
-  then_long : (added : List ℕ) → Adds wide meaning all piece (gives added) → limit < length (made ++ added) →
+  then_long : (added : List ℕ) → Adds wide meaning all piece (gives added) → limit wide < length (made ++ added) →
       Goes wide meaning all made piece rest (fails too_long)
   then_fault : (fault : Fault) → Adds wide meaning all piece (fails fault) → Goes wide meaning all made piece rest (fails fault)
 
@@ -114,7 +114,7 @@ module _ (wide : Bool) (meaning : List ℕ → Meaning) where
   Leads state root [] own text = (own ≡ []) × (text ≡ root)
   Leads state root (c ∷ cs) own text =
       LeadsBy state (names cs) c.awaited own text
-      × ((own' : List (List ℕ)) × (text' : List ℕ) × (length c.made ≤ limit)
+      × ((own' : List (List ℕ)) × (text' : List ℕ) × (length c.made ≤ limit wide)
       × StandsFor state own' text' c.made (left_of c.awaited text) × Leads state root cs own' text')
 
   pub record IsExpanding (root : List ℕ) (state : List ℕ → Progress) (callers : List Waiting) (made : List ℕ) (left : Left) : Type 0 where
@@ -123,7 +123,7 @@ module _ (wide : Bool) (meaning : List ℕ → Meaning) where
     pub right : AreRight state
     pub open_among : (name : List ℕ) → state name ≡ opened → IsOneOf name (names callers)
     pub leads : Leads state root callers own text
-    pub short : length made ≤ limit
+    pub short : length made ≤ limit wide
     pub stands : StandsFor state own text made left
 
   module _ (state state' : List ℕ → Progress) (grows : (n : List ℕ) → IsKnown state n → IsKnown state' n) where
@@ -256,7 +256,7 @@ module _ (wide : Bool) (meaning : List ℕ → Meaning) where
         piece_fault piece after fault at adds = left_fault fault (goes (names cs) made left piece after at (then_fault fault adds))
 
         pub piece_too_long : (piece : Piece) (after added : List ℕ) → ahead wide left ≡ first piece after →
-            AddsAnywhere piece added → limit < length (made ++ added) → Expands wide meaning [] [] root (fails too_long)
+            AddsAnywhere piece added → limit wide < length (made ++ added) → Expands wide meaning [] [] root (fails too_long)
         piece_too_long piece after added at adds long =
             left_fault too_long (goes (names cs) made left piece after at (then_long added (adds (names cs) (names-avoid cs now.own now.text now.leads)) long))
 
@@ -267,7 +267,7 @@ module _ (wide : Bool) (meaning : List ℕ → Meaning) where
 
         -- the bytes of a piece are appended
         pub step : (piece : Piece) (after added : List ℕ) → ahead wide left ≡ first piece after →
-            AddsAnywhere piece added → length (made ++ added) ≤ limit → IsExpanding root state cs (made ++ added) (at_text after)
+            AddsAnywhere piece added → length (made ++ added) ≤ limit wide → IsExpanding root state cs (made ++ added) (at_text after)
         step piece after added at adds bound = record {
           own = now.own;
           text = now.text;
@@ -291,7 +291,7 @@ module _ (wide : Bool) (meaning : List ℕ → Meaning) where
             (refl, w),
             (now.own, now.text, now.short, (λ outer a outcome g. now.stands outer a outcome (goes (now.own ++ outer) made left (nested inner) after at g)), now.leads),
           );
-          short = lit≤ tt;
+          short = omega arith;
           stands = λ outer a outcome e. e;
         }
 
@@ -329,7 +329,7 @@ module _ (wide : Bool) (meaning : List ℕ → Meaning) where
     right = λ name value k. let e : unseen ≡ known value = sym (none name) ∙ k in absurd (cc);
     open_among = λ name o. let e : unseen ≡ opened = sym (none name) ∙ o in absurd (cc);
     leads = (refl, refl);
-    short = lit≤ tt;
+    short = omega arith;
     stands = λ outer a outcome e. e;
   }
 
@@ -369,7 +369,7 @@ module _ (wide : Bool) (meaning : List ℕ → Meaning) where
             ),
             (now.own, now.text, now.short, stands-grow state state' grows now.own now.text made left now.stands, leads-grow state state' grows root cs now.own now.text keep now.leads),
           );
-          short = lit≤ tt;
+          short = omega arith;
           stands = λ outer a outcome e. e;
         }
 

@@ -3,13 +3,13 @@ use Rattle.std.proofs.Common.{◌≡◌, ◌≤◌, inl, inr, ℕ, List, [], ◌
 use Rattle.mk_macros.specs.Reference.{Use, used}
 use Rattle.mk_macros.specs.Ranks.{meaning_from}
 use Rattle.mk_macros.specs.Lookup.{Progress, opened, known, unseen, AddsNow, Finds, FailsNow}
-use Rattle.mk_macros.specs.Expansion.{Meaning, undefined, dynamic, defined, limit, IsTooLongAt, IsLongValue}
+use Rattle.mk_macros.specs.Expansion.{Meaning, undefined, dynamic, defined, IsTooLongAt, IsLongValue}
 use Rattle.mk_macros.specs.declared.fault.MacroFault.{MacroFault}
 use Rattle.mk_macros.specs.declared.fault.MacroFault.TheVariants.{OutOfMemory, Loop, Unclosed, NestedReference, TooLong, Function}
 
-module _ (function : Option (List ℕ)) (progress : Progress) (use_of : Use) (name made : List ℕ) where
+module _ (most : ℕ) (function : Option (List ℕ)) (progress : Progress) (use_of : Use) (name made : List ℕ) where
   -- a dynamic macro whose value couldn't be made
-  pub value_fails : (value text : Option (List ℕ)) (fault : MacroFault) → IsLongValue value fault → FailsNow function (meaning_from value text) progress use_of name made fault
+  pub value_fails : (value text : Option (List ℕ)) (fault : MacroFault) → IsLongValue most value fault → FailsNow most function (meaning_from value text) progress use_of name made fault
   value_fails value text OutOfMemory long = tt
   value_fails None text (Loop n) long = absurd long
   value_fails None text Unclosed long = absurd long
@@ -23,8 +23,8 @@ module _ (function : Option (List ℕ)) (progress : Progress) (use_of : Use) (na
   value_fails (Some value) text (Function w) long = absurd long
 
   -- a value that couldn't be appended
-  pub append_fails : (meaning : Meaning) (added : List ℕ) → AddsNow function meaning progress use_of added → (fault : MacroFault) →
-      IsTooLongAt (length (made ++ added)) fault → FailsNow function meaning progress use_of name made fault
+  pub append_fails : (meaning : Meaning) (added : List ℕ) → AddsNow most function meaning progress use_of added → (fault : MacroFault) →
+      IsTooLongAt most (length (made ++ added)) fault → FailsNow most function meaning progress use_of name made fault
   append_fails meaning added adds OutOfMemory long = tt
   append_fails meaning added adds (Loop n) long = absurd long
   append_fails meaning added adds Unclosed long = absurd long

@@ -1,5 +1,5 @@
 -- Texts without a dollar.
-use Rattle.std.proofs.Common.{arith, ◌≡◌, ℕ, ◌≤◌, ◌<◌, Bool, false, ◌==◌, cond, List, [], ◌∷◌, length, refl, ap, ◌∙◌}
+use Rattle.std.proofs.Common.{arith, ◌≡◌, ℕ, ◌≤◌, ◌<◌, Bool, true, false, ◌==◌, cond, List, [], ◌∷◌, length, refl, ap, ◌∙◌}
 use Rattle.std.proofs.lemmas.Bool.{or_parts}
 use Rattle.std.specs.Prelude.{Result, Ok, Err, IfOk, IfErr}
 use Rattle.std.specs.List.{list_any}
@@ -7,6 +7,7 @@ use Rattle.mk_macros.specs.Expansion.{Meaning, Expands, ends, goes_on, is_too_lo
 use Rattle.mk_macros.specs.Reference.{front, first, plain, plain_until, behind_dollar}
 use Rattle.mk_macros.specs.Words.{place_of}
 use Rattle.mk_macros.specs.declared.fault.MacroFault.{MacroFault}
+use Rattle.mk_macros.specs.declared.fault.TheConstants.{MAX_EXPANSION_BYTES}
 use Rattle.mk_macros.specs.declared.fault.MacroFault.TheVariants.{OutOfMemory, Loop, Unclosed, NestedReference, TooLong, Function}
 use Rattle.mk_macros.proofs.SpelledLemmas.{place_of-none}
 
@@ -19,19 +20,24 @@ whole wide b text none =
     ap (λ t. cond t (behind_dollar wide text) (plain_until (b ∷ text) (place_of 36 (b ∷ text)))) no
     ∙ ap (plain_until (b ∷ text)) (place_of-none 36 (b ∷ text) none)
 
+-- what is within the limit of the strict profile is within that of each
+pub within_each : (wide : Bool) (n : ℕ) → n ≤ MAX_EXPANSION_BYTES → n ≤ limit wide
+within_each true n within = omega (arith, within)
+within_each false n within = within
+
 -- such a text stands for itself, whichever names are being expanded
-pub plain_expands_in : (wide : Bool) (meaning : List ℕ → Meaning) (text : List ℕ) → HasNoDollar text → length text ≤ limit → (opened : List (List ℕ)) → Expands wide meaning opened [] text (gives text)
+pub plain_expands_in : (wide : Bool) (meaning : List ℕ → Meaning) (text : List ℕ) → HasNoDollar text → length text ≤ limit wide → (opened : List (List ℕ)) → Expands wide meaning opened [] text (gives text)
 plain_expands_in wide meaning [] none within opened = ends refl
 plain_expands_in wide meaning (b ∷ text) none within opened = goes_on (plain (b ∷ text)) [] (b ∷ text) (whole wide b text none) adds_bytes within (ends refl)
 
-pub plain_expands : (wide : Bool) (meaning : List ℕ → Meaning) (text : List ℕ) → HasNoDollar text → length text ≤ limit → Expands wide meaning [] [] text (gives text)
+pub plain_expands : (wide : Bool) (meaning : List ℕ → Meaning) (text : List ℕ) → HasNoDollar text → length text ≤ limit wide → Expands wide meaning [] [] text (gives text)
 plain_expands wide meaning text none within = plain_expands_in wide meaning text none within []
 
-plain_too_long : (wide : Bool) (meaning : List ℕ → Meaning) (text : List ℕ) → HasNoDollar text → limit < length text → Expands wide meaning [] [] text (fails too_long)
+plain_too_long : (wide : Bool) (meaning : List ℕ → Meaning) (text : List ℕ) → HasNoDollar text → limit wide < length text → Expands wide meaning [] [] text (fails too_long)
 plain_too_long wide meaning [] none past = absurd (omega arith)
 plain_too_long wide meaning (b ∷ text) none past = is_too_long (plain (b ∷ text)) [] (b ∷ text) (whole wide b text none) adds_bytes past
 
-pub plain_fault : (wide : Bool) (meaning : List ℕ → Meaning) (text : List ℕ) → HasNoDollar text → (fault : MacroFault) → IsTooLongAt (length text) fault → MeetsFault wide meaning text fault
+pub plain_fault : (wide : Bool) (meaning : List ℕ → Meaning) (text : List ℕ) → HasNoDollar text → (fault : MacroFault) → IsTooLongAt (limit wide) (length text) fault → MeetsFault wide meaning text fault
 plain_fault wide meaning text none OutOfMemory is = tt
 plain_fault wide meaning text none TooLong is = plain_too_long wide meaning text none is
 plain_fault wide meaning text none (Loop name) is = absurd is

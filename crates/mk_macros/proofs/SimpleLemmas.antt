@@ -65,14 +65,14 @@ module _ (given : Defined) (line : Dynamic) where
       subst (AddsThere given line (reference name whole)) (sym empty) (undefined_adds name none is no_function)
 
   pub defined_adds : (name text : List ℕ) → dynamic_value line name ≡ None → in_force (given.ranks name) ≡ Some text →
-      HasNoDollar text → length text ≤ limit → AddsThere given line (reference name whole) text
+      HasNoDollar text → length text ≤ limit (is_wide given.language) → AddsThere given line (reference name whole) text
   defined_adds name text none is plain_text within =
       has_value text text (ap (λ value. meaning_from value (in_force (given.ranks name))) none ∙ ap (meaning_from None) is) (λ opened. opened)
       (plain_expands_in (is_wide given.language) (meaning_of given.ranks line) text plain_text within (name ∷ []))
 
   -- a dynamic macro
   pub dynamic_adds : (names : RecipeNames) (name : List ℕ) (found : Option (Bor (List ℕ))) → line ≡ RecipeLine names →
-      IfSome found (λ v. (recipe_value names name ≡ Some v.now) × (length v.now ≤ limit)) →
+      IfSome found (λ v. (recipe_value names name ≡ Some v.now) × (length v.now ≤ limit (is_wide given.language))) →
       IfSome found (λ v. AddsThere given line (reference name whole) v.now)
   dynamic_adds names name None is value = tt
   dynamic_adds names name (Some v) is (value, within) =
@@ -82,17 +82,17 @@ module _ (given : Defined) (line : Dynamic) where
 
   -- what the rest comes to behind what was made the whole text comes to
   pub record SoFar (text made rest : List ℕ) : Type 0 where
-    pub within : length made ≤ limit
+    pub within : length made ≤ limit (is_wide given.language)
     pub expands : (bytes : List ℕ) → Expands (is_wide given.language) (meaning_of given.ranks line) [] made rest (gives bytes) →
         Expands (is_wide given.language) (meaning_of given.ranks line) [] [] text (gives bytes)
 
   pub one_more : (text made rest after added new : List ℕ) (piece : Piece) → first piece after ≡ front (is_wide given.language) rest →
-      AddsThere given line piece added → new ≡ made ++ added → length new ≤ limit → SoFar text made rest → SoFar text new after
+      AddsThere given line piece added → new ≡ made ++ added → length new ≤ limit (is_wide given.language) → SoFar text made rest → SoFar text new after
   one_more text made rest after added new piece at adds is within before = record {
     within = within;
     expands = λ bytes behind.
         before.expands bytes
-        (goes_on piece after added (sym at) adds (subst (λ m. length m ≤ limit) is within)
+        (goes_on piece after added (sym at) adds (subst (λ m. length m ≤ limit (is_wide given.language)) is within)
         (subst (λ m. Expands (is_wide given.language) (meaning_of given.ranks line) [] m after (gives bytes)) is behind));
   }
 

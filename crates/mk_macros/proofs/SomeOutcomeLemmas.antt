@@ -85,7 +85,7 @@ module _ (wide : Bool) (definitions : List (List ℕ × Ranks)) (line : Dynamic)
     valued name use_of text e apart (gives value, x) = (gives (used use_of value), has_value text value e apart x)
     valued name use_of text e apart (fails fault, x) = (fails fault, has_fault text fault e apart x)
 
-    dynamic_some : (name : List ℕ) (use_of : Use) (value : List ℕ) → meaning name ≡ dynamic value → (limit < length value) ⊎ (length value ≤ limit) → (o : Outcome) × Adds wide meaning names (reference name use_of) o
+    dynamic_some : (name : List ℕ) (use_of : Use) (value : List ℕ) → meaning name ≡ dynamic value → (limit wide < length value) ⊎ (length value ≤ limit wide) → (o : Outcome) × Adds wide meaning names (reference name use_of) o
     dynamic_some name use_of value e (inl long) = (fails too_long, is_long_dynamic value e long)
     dynamic_some name use_of value e (inr fits) = (gives (used use_of value), is_dynamic value e fits)
 
@@ -95,7 +95,7 @@ module _ (wide : Bool) (definitions : List (List ℕ × Ranks)) (line : Dynamic)
 
     reference_some : (name : List ℕ) (use_of : Use) (m : Meaning) → meaning name ≡ m → (o : Outcome) × Adds wide meaning names (reference name use_of) o
     reference_some name use_of undefined e = undefined_some name use_of e (function_in wide name) refl
-    reference_some name use_of (dynamic value) e = dynamic_some name use_of value e (lt_or_le limit (length value))
+    reference_some name use_of (dynamic value) e = dynamic_some name use_of value e (lt_or_le (limit wide) (length value))
     reference_some name use_of (defined text) e =
         either _ (is_one name names)
         (λ t. (fails (refers_to_itself name), is_loop text e (one_said name names t)))
@@ -131,14 +131,14 @@ module _ (wide : Bool) (definitions : List (List ℕ × Ranks)) (line : Dynamic)
         (λ w. (fails dollar_in_brackets, is_nested w))
 
     sized : (made text : List ℕ) → Later text → (piece : Piece) (rest : List ℕ) → front wide text ≡ first piece rest → (bytes : List ℕ) → Adds wide meaning names piece (gives bytes) →
-        (limit < length (made ++ bytes)) ⊎ (length (made ++ bytes) ≤ limit) → Has names made text
+        (limit wide < length (made ++ bytes)) ⊎ (length (made ++ bytes) ≤ limit wide) → Has names made text
     sized made text later piece rest e bytes a (inl long) = (fails too_long, is_too_long piece rest bytes e a long)
     sized made text later piece rest e bytes a (inr fits) =
         let more = later (made ++ bytes) rest (piece_shorter wide text piece rest (subst (SpellsFront wide text) e (front_said wide text))) in
         (more.0, goes_on piece rest bytes e a fits more.1)
 
     added : (made text : List ℕ) → Later text → (piece : Piece) (rest : List ℕ) → front wide text ≡ first piece rest → ((o : Outcome) × Adds wide meaning names piece o) → Has names made text
-    added made text later piece rest e (gives bytes, a) = sized made text later piece rest e bytes a (lt_or_le limit (length (made ++ bytes)))
+    added made text later piece rest e (gives bytes, a) = sized made text later piece rest e bytes a (lt_or_le (limit wide) (length (made ++ bytes)))
     added made text later piece rest e (fails fault, a) = (fails fault, meets_fault piece rest fault e a)
 
     front_some : (made text : List ℕ) → Later text → (f : Front) → front wide text ≡ f → Has names made text

@@ -1,10 +1,10 @@
 -- What the expansion of a text is, form by form.
-use Rattle.std.specs.Prelude.{◌≡◌, ℕ, ◌≤◌, ◌<◌, ◌⊎◌, Bool, true, false, List, [], ◌∷◌, ◌++◌, length, Option, Some, None}
+use Rattle.std.specs.Prelude.{◌≡◌, ℕ, ◌≤◌, ◌<◌, ◌⊎◌, Bool, true, false, if◌then◌else◌, List, [], ◌∷◌, ◌++◌, length, Option, Some, None}
 use Rattle.mk_profile.specs.Profile.{is_wide}
 use Rattle.mk_profile.specs.declared.profile.Profile.{Profile}
 use Rattle.mk_macros.specs.Function.{function_in}
 use Rattle.mk_macros.specs.Reference.{Use, used, Piece, plain, reference, unclosed, nested, named, nothing, first, front}
-use Rattle.mk_macros.specs.declared.fault.TheConstants.{MAX_EXPANSION_BYTES}
+use Rattle.mk_macros.specs.declared.fault.TheConstants.{MAX_EXPANSION_BYTES, MAX_WIDE_EXPANSION_BYTES}
 use Rattle.mk_macros.specs.declared.fault.MacroFault.{MacroFault}
 use Rattle.mk_macros.specs.declared.fault.MacroFault.TheVariants.{OutOfMemory, Loop, Unclosed, NestedReference, TooLong, Function}
 
@@ -33,8 +33,8 @@ pub data Outcome : Type 0 where
   fails : (fault : Fault) → Outcome
 
 -- no text and no value grows longer
-abbrev pub limit : ℕ
-limit = MAX_EXPANSION_BYTES
+abbrev pub limit : (wide : Bool) → ℕ
+limit wide = if wide then MAX_WIDE_EXPANSION_BYTES else MAX_EXPANSION_BYTES
 
 -- the name is one of the list
 abbrev pub IsOneOf : List ℕ → List (List ℕ) → Type 0
@@ -47,10 +47,10 @@ mutual
   pub data Expands (wide : Bool) (meaning : List ℕ → Meaning) : (opened : List (List ℕ)) (made text : List ℕ) → Outcome → Type 0 where
     ends : {opened : List (List ℕ)} {made text : List ℕ} → front wide text ≡ nothing → Expands wide meaning opened made text (gives made)
     goes_on : {opened : List (List ℕ)} {made text : List ℕ} {outcome : Outcome} (piece : Piece) (rest added : List ℕ) →
-        front wide text ≡ first piece rest → Adds wide meaning opened piece (gives added) → length (made ++ added) ≤ limit →
+        front wide text ≡ first piece rest → Adds wide meaning opened piece (gives added) → length (made ++ added) ≤ limit wide →
         Expands wide meaning opened (made ++ added) rest outcome → Expands wide meaning opened made text outcome
     is_too_long : {opened : List (List ℕ)} {made text : List ℕ} (piece : Piece) (rest added : List ℕ) →
-        front wide text ≡ first piece rest → Adds wide meaning opened piece (gives added) → limit < length (made ++ added) →
+        front wide text ≡ first piece rest → Adds wide meaning opened piece (gives added) → limit wide < length (made ++ added) →
         Expands wide meaning opened made text (fails too_long)
     meets_fault : {opened : List (List ℕ)} {made text : List ℕ} (piece : Piece) (rest : List ℕ) (fault : Fault) →
         front wide text ≡ first piece rest → Adds wide meaning opened piece (fails fault) → Expands wide meaning opened made text (fails fault)
@@ -66,9 +66,9 @@ mutual
     is_function : {opened : List (List ℕ)} {name : List ℕ} {use_of : Use} (word : List ℕ) →
         meaning name ≡ undefined → function_in wide name ≡ Some word → Adds wide meaning opened (reference name use_of) (fails (calls_function word))
     is_dynamic : {opened : List (List ℕ)} {name : List ℕ} {use_of : Use} (value : List ℕ) →
-        meaning name ≡ dynamic value → length value ≤ limit → Adds wide meaning opened (reference name use_of) (gives (used use_of value))
+        meaning name ≡ dynamic value → length value ≤ limit wide → Adds wide meaning opened (reference name use_of) (gives (used use_of value))
     is_long_dynamic : {opened : List (List ℕ)} {name : List ℕ} {use_of : Use} (value : List ℕ) →
-        meaning name ≡ dynamic value → limit < length value → Adds wide meaning opened (reference name use_of) (fails too_long)
+        meaning name ≡ dynamic value → limit wide < length value → Adds wide meaning opened (reference name use_of) (fails too_long)
     is_loop : {opened : List (List ℕ)} {name : List ℕ} {use_of : Use} (text : List ℕ) →
         meaning name ≡ defined text → IsOneOf name opened → Adds wide meaning opened (reference name use_of) (fails (refers_to_itself name))
     has_value : {opened : List (List ℕ)} {name : List ℕ} {use_of : Use} (text value : List ℕ) →
@@ -100,14 +100,14 @@ MeetsFault wide meaning text (Function word) = Expands wide meaning [] [] text (
 abbrev pub ExpandsToFault : Meanings → (text : List ℕ) → MacroFault → Type 0
 ExpandsToFault names text fault = MeetsFault (is_wide names.language) names.meaning text fault
 
--- the fault of an appending call that would leave this many bytes
-abbrev pub IsTooLongAt : ℕ → MacroFault → Type 0
-IsTooLongAt total OutOfMemory = Unit {0}
-IsTooLongAt total TooLong = limit < total
-IsTooLongAt total _ = ⊥
+-- the fault of an appending call that would leave this many bytes, where so many are the most
+abbrev pub IsTooLongAt : (most total : ℕ) → MacroFault → Type 0
+IsTooLongAt most total OutOfMemory = Unit {0}
+IsTooLongAt most total TooLong = most < total
+IsTooLongAt most total _ = ⊥
 
 -- the fault of a call that gives a value, where there is one
-abbrev pub IsLongValue : Option (List ℕ) → MacroFault → Type 0
-IsLongValue (Some value) fault = IsTooLongAt (length value) fault
-IsLongValue None OutOfMemory = Unit {0}
-IsLongValue None _ = ⊥
+abbrev pub IsLongValue : (most : ℕ) → Option (List ℕ) → MacroFault → Type 0
+IsLongValue most (Some value) fault = IsTooLongAt most (length value) fault
+IsLongValue most None OutOfMemory = Unit {0}
+IsLongValue most None _ = ⊥

@@ -4,7 +4,7 @@ use Rattle.std.specs.Borrow.{Bor}
 use Rattle.std.specs.HashMap.{HashMap, get_by}
 use Rattle.std.specs.Cmp.Lexicographic.{pointwise}
 use Rattle.mk_macros.specs.Reference.{Use, used}
-use Rattle.mk_macros.specs.Expansion.{Meaning, undefined, dynamic, defined, limit}
+use Rattle.mk_macros.specs.Expansion.{Meaning, undefined, dynamic, defined}
 use Rattle.mk_macros.specs.declared.fault.MacroFault.{MacroFault}
 use Rattle.mk_macros.specs.declared.fault.MacroFault.TheVariants.{OutOfMemory, Loop, TooLong, Function}
 use Rattle.mk_macros.specs.declared.lookup.Progress as own
@@ -25,35 +25,35 @@ abbrev pub progress_at : {S : Type 0} → HashMap (Bor (List ℕ)) own.Progress 
 progress_at m name = shown_progress (get_by (λ k. pointwise nat_eq name k.now) m)
 
 -- what a reference adds, where the value of its macro is known; one that isn't defined adds nothing if it spells no function
-abbrev pub AddsNow : (function : Option (List ℕ)) → Meaning → Progress → Use → (added : List ℕ) → Type 0
-AddsNow function undefined progress use_of added = (function ≡ None) × (added ≡ [])
-AddsNow function (dynamic value) progress use_of added = (length value ≤ limit) × (added ≡ used use_of value)
-AddsNow function (defined text) (known value) use_of added = added ≡ used use_of value
-AddsNow function (defined text) unseen use_of added = ⊥
-AddsNow function (defined text) opened use_of added = ⊥
+abbrev pub AddsNow : (most : ℕ) → (function : Option (List ℕ)) → Meaning → Progress → Use → (added : List ℕ) → Type 0
+AddsNow most function undefined progress use_of added = (function ≡ None) × (added ≡ [])
+AddsNow most function (dynamic value) progress use_of added = (length value ≤ most) × (added ≡ used use_of value)
+AddsNow most function (defined text) (known value) use_of added = added ≡ used use_of value
+AddsNow most function (defined text) unseen use_of added = ⊥
+AddsNow most function (defined text) opened use_of added = ⊥
 
 -- a dynamic macro has a value over the limit
-abbrev pub HasLongValue : Meaning → Type 0
-HasLongValue undefined = ⊥
-HasLongValue (dynamic value) = limit < length value
-HasLongValue (defined text) = ⊥
+abbrev pub HasLongValue : (most : ℕ) → Meaning → Type 0
+HasLongValue most undefined = ⊥
+HasLongValue most (dynamic value) = most < length value
+HasLongValue most (defined text) = ⊥
 
 -- the text that a name stands for
 abbrev pub IsDefined : Meaning → Type 0
 IsDefined meaning = (text : List ℕ) × (meaning ≡ defined text)
 
 -- what was made now ends in what the reference adds; or its macro wasn't met yet, and this is its name and its text
-abbrev pub Finds : (function : Option (List ℕ)) → Meaning → Progress → Use → (name before after : List ℕ) → Option (Bor (List ℕ) × Bor (List ℕ)) → Type 0
-Finds function meaning progress use_of name before after None =
-    (added : List ℕ) × AddsNow function meaning progress use_of added × (after ≡ before ++ added) × (length after ≤ limit)
-Finds function meaning progress use_of name before after (Some found) =
+abbrev pub Finds : (most : ℕ) → (function : Option (List ℕ)) → Meaning → Progress → Use → (name before after : List ℕ) → Option (Bor (List ℕ) × Bor (List ℕ)) → Type 0
+Finds most function meaning progress use_of name before after None =
+    (added : List ℕ) × AddsNow most function meaning progress use_of added × (after ≡ before ++ added) × (length after ≤ most)
+Finds most function meaning progress use_of name before after (Some found) =
     (found.0.now ≡ name) × (meaning ≡ defined found.1.now) × (progress ≡ unseen) × (after ≡ before)
 
 -- why nothing could be appended to what was made
-abbrev pub FailsNow : (function : Option (List ℕ)) → Meaning → Progress → Use → (name made : List ℕ) → MacroFault → Type 0
-FailsNow function meaning progress use_of name made OutOfMemory = Unit {0}
-FailsNow function meaning progress use_of name made (Loop n) = (n ≡ name) × (progress ≡ opened) × IsDefined meaning
-FailsNow function meaning progress use_of name made TooLong =
-    HasLongValue meaning ⊎ ((added : List ℕ) × AddsNow function meaning progress use_of added × (limit < length (made ++ added)))
-FailsNow function meaning progress use_of name made (Function word) = (meaning ≡ undefined) × (function ≡ Some word)
-FailsNow function meaning progress use_of name made _ = ⊥
+abbrev pub FailsNow : (most : ℕ) → (function : Option (List ℕ)) → Meaning → Progress → Use → (name made : List ℕ) → MacroFault → Type 0
+FailsNow most function meaning progress use_of name made OutOfMemory = Unit {0}
+FailsNow most function meaning progress use_of name made (Loop n) = (n ≡ name) × (progress ≡ opened) × IsDefined meaning
+FailsNow most function meaning progress use_of name made TooLong =
+    HasLongValue most meaning ⊎ ((added : List ℕ) × AddsNow most function meaning progress use_of added × (most < length (made ++ added)))
+FailsNow most function meaning progress use_of name made (Function word) = (meaning ≡ undefined) × (function ≡ Some word)
+FailsNow most function meaning progress use_of name made _ = ⊥

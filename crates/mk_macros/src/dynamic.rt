@@ -4,9 +4,9 @@ ghost use Rattle.std.specs.List.{join_with_byte};
 ghost use Rattle.mk_macros.specs.Words.{changed_words};
 ghost use Rattle.mk_macros.specs.Shown.{shown_change};
 ghost use Rattle.mk_macros.specs.Dynamic.{words_in, whole_value, part_value, recipe_value, dynamic_value};
-ghost use Rattle.mk_macros.specs.Expansion.{limit, IsTooLongAt, IsLongValue};
+ghost use Rattle.mk_macros.specs.Expansion.{IsTooLongAt, IsLongValue};
 
-use crate::fault::{MAX_EXPANSION_BYTES, MacroFault};
+use crate::fault::MacroFault;
 use crate::substitution::{WordChange, append_changed_words};
 use std::alloc::{AllocError, Global};
 
@@ -74,25 +74,30 @@ impl<'a> RecipeNames<'a> {
     }
 }
 
-/// The value, where it stays within the limit.
-fn checked(value: Vec<u8>) -> Result<Vec<u8>, MacroFault>
-    ensures ok { IfOk result (λ v. (v.items ≡ value.items) × (length v.items ≤ limit)) }
-    ensures err { IfErr result (IsTooLongAt (length value.items)) }
+/// The value, where it is no longer than this.
+fn checked(value: Vec<u8>, most: usize) -> Result<Vec<u8>, MacroFault>
+    ensures ok { IfOk result (λ v. (v.items ≡ value.items) × (length v.items ≤ most)) }
+    ensures err { IfErr result (IsTooLongAt most (length value.items)) }
 {
-    if value.len() > MAX_EXPANSION_BYTES {
+    if value.len() > most {
         return Err(MacroFault::TooLong);
     }
     Ok(value)
 }
 
 /// The value with each of its words cut to its directory or its file.
-fn part_of(alloc: Global, value: &[u8], change: &WordChange<'_>) -> Result<Vec<u8>, MacroFault>
+fn part_of(
+    alloc: Global,
+    most: usize,
+    value: &[u8],
+    change: &WordChange<'_>,
+) -> Result<Vec<u8>, MacroFault>
     ensures ok { IfOk result
-        (λ v. (v.items ≡ changed_words (shown_change change.now) value.now) × (length v.items ≤ limit)) }
-    ensures err { IfErr result (IsTooLongAt (length (changed_words (shown_change change.now) value.now))) }
+        (λ v. (v.items ≡ changed_words (shown_change change.now) value.now) × (length v.items ≤ most)) }
+    ensures err { IfErr result (IsTooLongAt most (length (changed_words (shown_change change.now) value.now))) }
 {
     let mut part = Vec::new(alloc);
-    append_changed_words(&mut part, value, change)?;
+    append_changed_words(&mut part, most, value, change)?;
     Ok(part)
 }
 
@@ -100,51 +105,57 @@ impl<'a> RecipeNames<'a> {
     fn part_value(
         &self,
         alloc: Global,
+        most: usize,
         sign: u8,
         change: &WordChange<'_>,
     ) -> Result<Option<Vec<u8>>, MacroFault>
         ensures ok { IfOk result
             (λ found. (option_map (λ v. v.items) found
             ≡ option_map (changed_words (shown_change change.now)) (whole_value self.now sign))
-            × IfSome found (λ v. length v.items ≤ limit)) }
+            × IfSome found (λ v. length v.items ≤ most)) }
         ensures err { IfErr result
-            (IsLongValue (option_map (changed_words (shown_change change.now)) (whole_value self.now sign))) }
+            (IsLongValue most (option_map (changed_words (shown_change change.now)) (whole_value self.now sign))) }
     {
         match self.whole_value(alloc, sign)? {
-            Some(value) => Ok(Some(part_of(alloc, &value, change)?)),
+            Some(value) => Ok(Some(part_of(alloc, most, &value, change)?)),
             None => Ok(None),
         }
     }
 
-    fn value(&self, alloc: Global, name: &[u8]) -> Result<Option<Vec<u8>>, MacroFault>
+    fn value(&self, alloc: Global, most: usize, name: &[u8]) -> Result<Option<Vec<u8>>, MacroFault>
         ensures ok { IfOk result
             (λ found. (option_map (λ v. v.items) found ≡ recipe_value self.now name.now)
-            × IfSome found (λ v. length v.items ≤ limit)) }
-        ensures err { IfErr result (IsLongValue (recipe_value self.now name.now)) }
+            × IfSome found (λ v. length v.items ≤ most)) }
+        ensures err { IfErr result (IsLongValue most (recipe_value self.now name.now)) }
     {
         match name {
             [sign] => match self.whole_value(alloc, *sign)? {
-                Some(value) => Ok(Some(checked(value)?)),
+                Some(value) => Ok(Some(checked(value, most)?)),
                 None => Ok(None),
             },
-            [sign, b'D'] => self.part_value(alloc, *sign, &WordChange::Directory),
-            [sign, b'F'] => self.part_value(alloc, *sign, &WordChange::File),
+            [sign, b'D'] => self.part_value(alloc, most, *sign, &WordChange::Directory),
+            [sign, b'F'] => self.part_value(alloc, most, *sign, &WordChange::File),
             _ => Ok(None),
         }
     }
 }
 
 impl<'a> Dynamic<'a> {
-    /// The value of a dynamic macro, or none where the name stands for none in this line.
-    pub(crate) fn value(&self, alloc: Global, name: &[u8]) -> Result<Option<Vec<u8>>, MacroFault>
+    /// The value of a dynamic macro, which is no longer than this, or none where the name stands for none in this line.
+    pub(crate) fn value(
+        &self,
+        alloc: Global,
+        most: usize,
+        name: &[u8],
+    ) -> Result<Option<Vec<u8>>, MacroFault>
         ensures ok { IfOk result
             (λ found. (option_map (λ v. v.items) found ≡ dynamic_value self.now name.now)
-            × IfSome found (λ v. length v.items ≤ limit)) }
-        ensures err { IfErr result (IsLongValue (dynamic_value self.now name.now)) }
+            × IfSome found (λ v. length v.items ≤ most)) }
+        ensures err { IfErr result (IsLongValue most (dynamic_value self.now name.now)) }
     {
         match self {
             Dynamic::RuleLine => Ok(None),
-            Dynamic::RecipeLine(names) => names.value(alloc, name),
+            Dynamic::RecipeLine(names) => names.value(alloc, most, name),
         }
     }
 }

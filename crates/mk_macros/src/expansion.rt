@@ -10,7 +10,7 @@ ghost use Rattle.mk_profile.specs.Profile.{is_wide};
 
 use crate::definitions::Macros;
 use crate::dynamic::Dynamic;
-use crate::fault::MacroFault;
+use crate::fault::{MacroFault, most_bytes};
 use crate::lookup::Progress;
 use crate::plain::{expand_plain, has_reference, is_own_value};
 use crate::reference::{Piece, named, next_piece};
@@ -58,7 +58,7 @@ impl Macros {
         ensures fault { IfErr result (ExpandsToFault (meanings_of (defined_by self.now) line.now) text.now) }
     {
         if !has_reference(text) {
-            return expand_plain(alloc, text);
+            return expand_plain(alloc, self.profile(), text);
         }
         if let Some(made) = self.expand_simply(alloc, text, line)? {
             return Ok(made);
@@ -120,7 +120,7 @@ impl Macros {
                         made = before;
                     }
                     Some((Piece::Plain(bytes), after)) => {
-                        append(&mut made, bytes)?;
+                        append(&mut made, most_bytes(profile), bytes)?;
                         left = Left::Text(after);
                     }
                     Some((Piece::Unclosed, _)) => return Err(MacroFault::Unclosed),
@@ -141,7 +141,7 @@ impl Macros {
                         )? {
                             None => left = Left::Text(after),
                             Some((name, text)) => {
-                                if is_own_value(text) {
+                                if is_own_value(profile, text) {
                                     let value = Vec::from_slice(alloc, text)?;
                                     progress.insert(name, Progress::Known(value))?;
                                     left = Left::Text(rest);

@@ -16,7 +16,7 @@ mod substitution;
 
 pub use definitions::{Macros, Rank};
 pub use dynamic::{Dynamic, RecipeNames};
-pub use fault::{MAX_EXPANSION_BYTES, MacroFault};
+pub use fault::{MAX_EXPANSION_BYTES, MAX_WIDE_EXPANSION_BYTES, MacroFault};
 pub use function::FUNCTIONS;
 pub use laws::{
     an_outcome, each_front_is_as_it_is_spelled, one_outcome, parts_of_words,

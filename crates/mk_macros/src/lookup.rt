@@ -10,7 +10,7 @@ ghost use Rattle.mk_macros.specs.Lookup.{progress_at, Finds, FailsNow};
 
 use crate::definitions::Macros;
 use crate::dynamic::Dynamic;
-use crate::fault::MacroFault;
+use crate::fault::{MacroFault, most_bytes};
 use crate::function::refuse_function;
 use crate::reference::Use;
 use crate::substitution::{append, append_changed_words};
@@ -27,15 +27,20 @@ pub(crate) enum Progress {
 }
 
 /// Appends what a reference takes of a value.
-fn append_used(out: &mut Vec<u8>, value: &[u8], use_of: &Use<'_>) -> Result<(), MacroFault>
-    requires { length out.old.items ≤ limit }
+fn append_used(
+    out: &mut Vec<u8>,
+    most: usize,
+    value: &[u8],
+    use_of: &Use<'_>,
+) -> Result<(), MacroFault>
+    requires { length out.old.items ≤ most }
     ensures ok { OnOk result ((out.new.items ≡ out.old.items ++ used (shown_use use_of.now) value.now)
-        × (length out.new.items ≤ limit)) }
-    ensures err { IfErr result (IsTooLongAt (length (out.old.items ++ used (shown_use use_of.now) value.now))) }
+        × (length out.new.items ≤ most)) }
+    ensures err { IfErr result (IsTooLongAt most (length (out.old.items ++ used (shown_use use_of.now) value.now))) }
 {
     match use_of {
-        Use::Whole => append(out, value),
-        Use::Words(change) => append_changed_words(out, value, change),
+        Use::Whole => append(out, most, value),
+        Use::Words(change) => append_changed_words(out, most, value, change),
     }
 }
 
@@ -51,14 +56,14 @@ impl Macros {
         name: &[u8],
         use_of: &Use<'_>,
     ) -> Result<Option<(&'a [u8], &'a [u8])>, MacroFault>
-        requires { length made.old.items ≤ limit }
-        ensures ok { IfOk result (Finds (function_in (is_wide profile) name.now) (meaning_of (defined_by self.now).ranks line.now name.now) (progress_at progress.now name.now)
+        requires { length made.old.items ≤ limit (is_wide profile) }
+        ensures ok { IfOk result (Finds (limit (is_wide profile)) (function_in (is_wide profile) name.now) (meaning_of (defined_by self.now).ranks line.now name.now) (progress_at progress.now name.now)
             (shown_use use_of.now) name.now made.old.items made.new.items) }
-        ensures err { IfErr result (FailsNow (function_in (is_wide profile) name.now) (meaning_of (defined_by self.now).ranks line.now name.now) (progress_at progress.now name.now)
+        ensures err { IfErr result (FailsNow (limit (is_wide profile)) (function_in (is_wide profile) name.now) (meaning_of (defined_by self.now).ranks line.now name.now) (progress_at progress.now name.now)
             (shown_use use_of.now) name.now made.old.items) }
     {
-        if let Some(value) = line.value(alloc, name)? {
-            append_used(made, &value, use_of)?;
+        if let Some(value) = line.value(alloc, most_bytes(profile), name)? {
+            append_used(made, most_bytes(profile), &value, use_of)?;
             return Ok(None);
         }
         let Some((name, text)) = self.definition(name) else {
@@ -68,7 +73,7 @@ impl Macros {
         match progress.get(name) {
             None => Ok(Some((name, text))),
             Some(Progress::Known(value)) => {
-                append_used(made, value, use_of)?;
+                append_used(made, most_bytes(profile), value, use_of)?;
                 Ok(None)
             }
             Some(Progress::Opened) => {

@@ -1,10 +1,12 @@
 // Texts without a reference, as most are: their expansion is a copy.
-ghost use Rattle.std.specs.Prelude.{◌≡◌, ◌==◌, ◌≤◌, ℕ, Bool, true, false, List, [], length, IfOk, IfErr};
+ghost use Rattle.std.specs.Prelude.{◌≡◌, ◌==◌, ◌≤◌, ℕ, true, false, List, [], length, IfOk, IfErr};
 ghost use Rattle.std.specs.List.{list_any};
 ghost use Rattle.mk_macros.specs.Expansion.{Meaning, gives, limit, Expands, MeetsFault};
+ghost use Rattle.mk_profile.specs.Profile.{is_wide};
 
-use crate::fault::{MAX_EXPANSION_BYTES, MacroFault};
+use crate::fault::{MacroFault, most_bytes};
 use crate::substitution::append;
+use mk_profile::Profile;
 use std::alloc::Global;
 
 pub(crate) fn has_reference(text: &[u8]) -> bool
@@ -13,21 +15,25 @@ pub(crate) fn has_reference(text: &[u8]) -> bool
     text.contains(&b'$')
 }
 
-/// The expansion of a text without a dollar.
+/// The expansion of a text without a dollar, in this language.
 #[tactic(auto, using(crate::proofs::PlainLemmas::plain_expands, crate::proofs::PlainLemmas::plain_fault))]
-pub(crate) fn expand_plain(alloc: Global, text: &[u8]) -> Result<Vec<u8>, MacroFault>
+pub(crate) fn expand_plain(
+    alloc: Global,
+    profile: Profile,
+    text: &[u8],
+) -> Result<Vec<u8>, MacroFault>
     requires { list_any (λ b. b == 36) text.now ≡ false }
-    ensures found { IfOk result (λ made. (wide : Bool) (meaning : List ℕ → Meaning) → Expands wide meaning [] [] text.now (gives made.items)) }
-    ensures fault { IfErr result (λ fault. (wide : Bool) (meaning : List ℕ → Meaning) → MeetsFault wide meaning text.now fault) }
+    ensures found { IfOk result (λ made. (meaning : List ℕ → Meaning) → Expands (is_wide profile) meaning [] [] text.now (gives made.items)) }
+    ensures fault { IfErr result (λ fault. (meaning : List ℕ → Meaning) → MeetsFault (is_wide profile) meaning text.now fault) }
 {
     let mut made = Vec::new(alloc);
-    append(&mut made, text)?;
+    append(&mut made, most_bytes(profile), text)?;
     Ok(made)
 }
 
 /// Whether a macro's text is its value: it has no reference, and isn't too long.
-pub(crate) fn is_own_value(text: &[u8]) -> bool
-    ensures { result ≡ true → (list_any (λ b. b == 36) text.now ≡ false) × (length text.now ≤ limit) }
+pub(crate) fn is_own_value(profile: Profile, text: &[u8]) -> bool
+    ensures { result ≡ true → (list_any (λ b. b == 36) text.now ≡ false) × (length text.now ≤ limit (is_wide profile)) }
 {
-    text.len() <= MAX_EXPANSION_BYTES && !has_reference(text)
+    text.len() <= most_bytes(profile) && !has_reference(text)
 }

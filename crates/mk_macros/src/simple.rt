@@ -14,7 +14,7 @@ ghost use Rattle.mk_profile.specs.Profile.{is_wide};
 
 use crate::definitions::Macros;
 use crate::dynamic::{Dynamic, RecipeNames};
-use crate::fault::MAX_EXPANSION_BYTES;
+use crate::fault::most_bytes;
 use crate::function::function_in;
 use crate::plain::is_own_value;
 use crate::reference::{Piece, Use, next_piece};
@@ -42,43 +42,43 @@ fn begins_with_sign(name: &[u8]) -> bool
     }
 }
 
-/// A value that isn't too long.
-fn short(value: &[u8]) -> Option<&[u8]>
-    ensures { (word : Option (List ℕ)) → word ≡ Some value.now → IfSome result (λ v. (word ≡ Some v.now) × (length v.now ≤ limit)) }
+/// A value that is no longer than this.
+fn short(value: &[u8], most: usize) -> Option<&[u8]>
+    ensures { (word : Option (List ℕ)) → word ≡ Some value.now → IfSome result (λ v. (word ≡ Some v.now) × (length v.now ≤ most)) }
 {
-    if value.len() > MAX_EXPANSION_BYTES {
+    if value.len() > most {
         return None;
     }
     Some(value)
 }
 
 /// The word of `$@`, `$<` or `$*`.
-fn single_word<'a>(names: &RecipeNames<'a>, sign: u8) -> Option<&'a [u8]>
-    ensures { IfSome result (λ v. (whole_value names.now sign ≡ Some v.now) × (length v.now ≤ limit)) }
+fn single_word<'a>(names: &RecipeNames<'a>, most: usize, sign: u8) -> Option<&'a [u8]>
+    ensures { IfSome result (λ v. (whole_value names.now sign ≡ Some v.now) × (length v.now ≤ most)) }
 {
     match sign {
-        b'@' => short(names.target),
-        b'<' => short(names.source),
-        b'*' => short(names.stem),
+        b'@' => short(names.target, most),
+        b'<' => short(names.source, most),
+        b'*' => short(names.stem, most),
         _ => None,
     }
 }
 
-fn dynamic_word<'a>(names: &RecipeNames<'a>, name: &[u8]) -> Option<&'a [u8]>
-    ensures { IfSome result (λ v. (recipe_value names.now name.now ≡ Some v.now) × (length v.now ≤ limit)) }
+fn dynamic_word<'a>(names: &RecipeNames<'a>, most: usize, name: &[u8]) -> Option<&'a [u8]>
+    ensures { IfSome result (λ v. (recipe_value names.now name.now ≡ Some v.now) × (length v.now ≤ most)) }
 {
     match name {
-        [sign] => single_word(names, *sign),
+        [sign] => single_word(names, most, *sign),
         _ => None,
     }
 }
 
-/// Appends bytes, and tells whether the whole stays within the limit. Where it wouldn't, nothing is appended.
-fn append_within(made: &mut Vec<u8>, bytes: &[u8]) -> Result<bool, AllocError>
-    requires { length made.old.items ≤ limit }
-    ensures { IfOk result (λ so. OnTrue so ((made.new.items ≡ made.old.items ++ bytes.now) × (length made.new.items ≤ limit))) }
+/// Appends bytes, and tells whether the whole is no longer than this. Where it would be, nothing is appended.
+fn append_within(made: &mut Vec<u8>, most: usize, bytes: &[u8]) -> Result<bool, AllocError>
+    requires { length made.old.items ≤ most }
+    ensures { IfOk result (λ so. OnTrue so ((made.new.items ≡ made.old.items ++ bytes.now) × (length made.new.items ≤ most))) }
 {
-    if bytes.len() > MAX_EXPANSION_BYTES - made.len() {
+    if bytes.len() > most - made.len() {
         return Ok(false);
     }
     made.extend_from_slice(bytes)?;
@@ -103,7 +103,7 @@ impl Macros {
     {
         match self.definition(name) {
             None => self.undefined_value(name),
-            Some((_, text)) if is_own_value(text) => Some(text),
+            Some((_, text)) if is_own_value(self.profile(), text) => Some(text),
             Some(_) => None,
         }
     }
@@ -119,7 +119,7 @@ impl Macros {
         ensures { IfSome result (λ v. AddsThere (defined_by self.now) line.now (reference name.now whole) v.now) }
     {
         if begins_with_sign(name) {
-            return dynamic_word(names, name);
+            return dynamic_word(names, most_bytes(self.profile()), name);
         }
         self.own_value(line, name)
     }
@@ -160,7 +160,7 @@ impl Macros {
             let Some(bytes) = self.simple_piece(line, piece) else {
                 return Ok(None);
             };
-            let fits = append_within(&mut made, bytes)?;
+            let fits = append_within(&mut made, most_bytes(profile), bytes)?;
             if !fits {
                 return Ok(None);
             }

@@ -2,9 +2,9 @@
 ghost use Rattle.std.specs.Prelude.{◌≡◌, ◌≤◌, ◌<◌, ◌++◌, length, OnOk, IfErr, IfSome, option_copied};
 ghost use Rattle.mk_macros.specs.Words.{place_of, pattern_of, stem_of, last_slash, directory_of, file_of, replacement, changed_word, changed_words};
 ghost use Rattle.mk_macros.specs.Shown.{shown_pattern, shown_change};
-ghost use Rattle.mk_macros.specs.Expansion.{limit, IsTooLongAt};
+ghost use Rattle.mk_macros.specs.Expansion.{IsTooLongAt};
 
-use crate::fault::{MAX_EXPANSION_BYTES, MacroFault};
+use crate::fault::MacroFault;
 use byte_strings::next_word;
 
 /// Old and new of a substitution, parted where the stem stands.
@@ -74,13 +74,13 @@ impl<'a> Pattern<'a> {
     }
 }
 
-/// Appends bytes, where the whole stays within the limit.
-pub(crate) fn append(out: &mut Vec<u8>, bytes: &[u8]) -> Result<(), MacroFault>
-    requires { length out.old.items ≤ limit }
-    ensures ok { OnOk result ((out.new.items ≡ out.old.items ++ bytes.now) × (length out.new.items ≤ limit)) }
-    ensures err { IfErr result (IsTooLongAt (length (out.old.items ++ bytes.now))) }
+/// Appends bytes, where the whole is no longer than this.
+pub(crate) fn append(out: &mut Vec<u8>, most: usize, bytes: &[u8]) -> Result<(), MacroFault>
+    requires { length out.old.items ≤ most }
+    ensures ok { OnOk result ((out.new.items ≡ out.old.items ++ bytes.now) × (length out.new.items ≤ most)) }
+    ensures err { IfErr result (IsTooLongAt most (length (out.old.items ++ bytes.now))) }
 {
-    if bytes.len() > MAX_EXPANSION_BYTES - out.len() {
+    if bytes.len() > most - out.len() {
         return Err(MacroFault::TooLong);
     }
     out.extend_from_slice(bytes)?;
@@ -121,59 +121,62 @@ fn file_of(word: &[u8]) -> &[u8]
 
 fn append_changed_word(
     out: &mut Vec<u8>,
+    most: usize,
     word: &[u8],
     change: &WordChange<'_>,
 ) -> Result<(), MacroFault>
-    requires { length out.old.items ≤ limit }
+    requires { length out.old.items ≤ most }
     ensures ok { OnOk result ((out.new.items ≡ out.old.items ++ changed_word (shown_change change.now) word.now)
-        × (length out.new.items ≤ limit)) }
-    ensures err { IfErr result (IsTooLongAt (length (out.old.items ++ changed_word (shown_change change.now) word.now))) }
+        × (length out.new.items ≤ most)) }
+    ensures err { IfErr result (IsTooLongAt most (length (out.old.items ++ changed_word (shown_change change.now) word.now))) }
 {
     match change {
-        WordChange::Directory => append(out, directory_of(word)),
-        WordChange::File => append(out, file_of(word)),
+        WordChange::Directory => append(out, most, directory_of(word)),
+        WordChange::File => append(out, most, file_of(word)),
         WordChange::ByPattern(pattern) => match pattern.stem(word) {
-            None => append(out, word),
-            Some(stem) => append_replacement(out, pattern, stem),
+            None => append(out, most, word),
+            Some(stem) => append_replacement(out, most, pattern, stem),
         },
     }
 }
 
 fn append_replacement(
     out: &mut Vec<u8>,
+    most: usize,
     pattern: &Pattern<'_>,
     stem: &[u8],
 ) -> Result<(), MacroFault>
-    requires { length out.old.items ≤ limit }
+    requires { length out.old.items ≤ most }
     ensures ok { OnOk result ((out.new.items ≡ out.old.items ++ replacement (shown_pattern pattern.now) stem.now)
-        × (length out.new.items ≤ limit)) }
-    ensures err { IfErr result (IsTooLongAt (length (out.old.items ++ replacement (shown_pattern pattern.now) stem.now))) }
+        × (length out.new.items ≤ most)) }
+    ensures err { IfErr result (IsTooLongAt most (length (out.old.items ++ replacement (shown_pattern pattern.now) stem.now))) }
 {
-    append(out, pattern.front)?;
+    append(out, most, pattern.front)?;
     if pattern.keeps_stem {
-        append(out, stem)?;
+        append(out, most, stem)?;
     }
-    append(out, pattern.back)
+    append(out, most, pattern.back)
 }
 
 /// Appends a value with each of its words changed, joined by one space.
 pub(crate) fn append_changed_words(
     out: &mut Vec<u8>,
+    most: usize,
     value: &[u8],
     change: &WordChange<'_>,
 ) -> Result<(), MacroFault>
-    requires { length out.old.items ≤ limit }
+    requires { length out.old.items ≤ most }
     ensures ok { OnOk result ((out.new.items ≡ out.old.items ++ changed_words (shown_change change.now) value.now)
-        × (length out.new.items ≤ limit)) }
-    ensures err { IfErr result (IsTooLongAt (length (out.old.items ++ changed_words (shown_change change.now) value.now))) }
+        × (length out.new.items ≤ most)) }
+    ensures err { IfErr result (IsTooLongAt most (length (out.old.items ++ changed_words (shown_change change.now) value.now))) }
 {
     let Some((word, mut rest)) = next_word(value) else {
         return Ok(());
     };
-    append_changed_word(out, word, change)?;
+    append_changed_word(out, most, word, change)?;
     while let Some((word, behind)) = next_word(rest) {
-        append(out, b" ")?;
-        append_changed_word(out, word, change)?;
+        append(out, most, b" ")?;
+        append_changed_word(out, most, word, change)?;
         rest = behind;
     }
     Ok(())

@@ -8,13 +8,14 @@ use Rattle.std.proofs.lemmas.Bool.{or_parts}
 use Rattle.std.proofs.lemmas.Slice.Eq.{bytes_eq-Decides}
 use Rattle.std.specs.Str.{bytes_eq}
 use Rattle.mk_macros.specs.Dynamic.{words_in}
-use Rattle.mk_macros.specs.Expansion.{Meanings, limit}
+use Rattle.mk_macros.specs.Expansion.{Meanings}
+use Rattle.mk_macros.specs.declared.fault.TheConstants.{MAX_EXPANSION_BYTES}
 use Rattle.mk_macros.specs.Mention.{RefersToNewer}
 use Rattle.mk_macros.specs.Reference.{front, first, plain, plain_until, behind_dollar}
 use Rattle.mk_macros.specs.Words.{place_of}
 use Rattle.mk_macros.specs.declared.dynamic.RecipeNames.{RecipeNames}
 use Rattle.mk_macros.proofs.MentionLemmas.{goes_on, none_left}
-use Rattle.mk_macros.proofs.PlainLemmas.{plain_expands}
+use Rattle.mk_macros.proofs.PlainLemmas.{plain_expands, within_each}
 use Rattle.mk_macros.proofs.SpelledLemmas.{place_of-none}
 use Rattle.mk_profile.specs.Profile.{is_wide}
 use Rattle.mk_profile.specs.declared.profile.Profile.{Profile}
@@ -49,9 +50,10 @@ refers_nowhere wide [] none refers = none_left wide [] refl refers
 refers_nowhere wide (b ∷ text) none refers =
     none_left wide [] refl (goes_on wide (b ∷ text) [] (plain (b ∷ text)) (one_piece wide b text none) refl (λ w. refl) refers)
 
-pub its_own : (text : List ℕ) → HasNoDollar text → length text ≤ limit → IsItsOwn text
+pub its_own : (text : List ℕ) → HasNoDollar text → length text ≤ MAX_EXPANSION_BYTES → IsItsOwn text
 its_own text none within = record {
-  expands = λ meanings. plain_expands (is_wide meanings.language) meanings.meaning text none within;
+  expands = λ meanings. plain_expands (is_wide meanings.language) meanings.meaning text none
+      (within_each (is_wide meanings.language) (length text) within);
   refers = λ wide. refers_nowhere wide text none;
 }
 

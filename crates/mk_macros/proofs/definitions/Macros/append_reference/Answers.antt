@@ -1,6 +1,7 @@
-use Rattle.std.proofs.Common.{◌≡◌, ◌∙◌, None, Some, sym, ap, option_map}
+use Rattle.std.proofs.Common.{◌≡◌, ◌∙◌, None, Some, sym, ap, subst, option_map}
 use Rattle.mk_profile.specs.Profile.{is_wide}
 use Rattle.mk_macros.specs.Dynamic.{dynamic_value}
+use Rattle.mk_macros.specs.Expansion.{limit, IsLongValue}
 use Rattle.mk_macros.specs.Function.{function_in}
 use Rattle.mk_macros.specs.Ranks.{ranks_at, in_force, meaning_from}
 use Rattle.mk_macros.specs.Lookup.{opened, shown_progress, progress_at}
@@ -27,5 +28,6 @@ pub returns-in_err-value-clause-err : goal.returns-in_err-value-clause-err
 returns-in_err-value-clause-err c =
     let name = c.args.name.now in
     let p = err_from_is_err_and c.from_residual.result c.from_residual.ensures.1 in
-    rw (p.1, p.2) (value_fails (function_in (is_wide c.args.profile) name) (progress_at c.args.progress.now name) (shown_use c.args.use_of.now) name c.args.made.now.items
-    (dynamic_value c.args.line.now name) (in_force (ranks_at c.args.self.now.texts name)) _ c.in_err-value.ensures.err)
+    let long = subst (λ most. IsLongValue most (dynamic_value c.args.line.now name) c.in_err-value.field-0.0) c.most_bytes.ensures c.in_err-value.ensures.err in
+    rw (p.1, p.2) (value_fails (limit (is_wide c.args.profile)) (function_in (is_wide c.args.profile) name) (progress_at c.args.progress.now name) (shown_use c.args.use_of.now) name c.args.made.now.items
+    (dynamic_value c.args.line.now name) (in_force (ranks_at c.args.self.now.texts name)) _ long)

@@ -1,4 +1,4 @@
-use Rattle.std.proofs.Common.{◌≡◌, ◌∙◌, ◌+◌, ℕ, true, false, List, [], ◌∷◌, length, None, Some, sym, ap, subst, arith, nat_eq}
+use Rattle.std.proofs.Common.{◌≡◌, ◌≤◌, ◌∙◌, ◌+◌, ℕ, true, false, List, [], ◌∷◌, ◌++◌, length, None, Some, sym, ap, subst, arith, nat_eq}
 use Rattle.std.specs.Map.{lookup}
 use Rattle.std.specs.Cmp.Lexicographic.{pointwise}
 use Rattle.std.proofs.lemmas.List.{nil_from_length}
@@ -10,7 +10,7 @@ use Rattle.mk_macros.specs.Dynamic.{dynamic_value}
 use Rattle.mk_macros.specs.Ranks.{ranks_at, in_force, meaning_of}
 use Rattle.mk_macros.specs.Function.{function_in}
 use Rattle.mk_macros.specs.Lookup.{Finds, known, progress_at, shown_progress}
-use Rattle.mk_macros.specs.Expansion.{adds_bytes, is_unclosed, is_nested, not_closed, dollar_in_brackets}
+use Rattle.mk_macros.specs.Expansion.{limit, IsTooLongAt, adds_bytes, is_unclosed, is_nested, not_closed, dollar_in_brackets}
 use Rattle.mk_macros.specs.declared.lookup.Progress.TheVariants.{Opened, Known}
 use Rattle.mk_macros.proofs.LookupLemmas.{defined_from}
 use Rattle.mk_macros.proofs.ExpansionLemmas.{IsExpanding, ahead, at_text, at_piece, SetsProgress, start, finish, step, enter, leave, know, enter_name, leave_name, piece_fault}
@@ -45,8 +45,8 @@ pieces-preserved-in-None-1 c =
     let use_of = shown_use c.named.result.1 in
     let spelled : named c.in-Name.bytes.items ≡ reference name use_of = ap named (sym c.deref.ensures.value) ∙ sym c.named.ensures in
     let at : ahead wide (left_shown c.pieces.left) ≡ first (reference name use_of) c.in-Name.after.now = ap (λ l. ahead wide (left_shown l)) c.in-Name.is ∙ ap (λ p. first p c.in-Name.after.now) spelled in
-    let f : Finds (function_in (is_wide c.args.profile) name) (meaning name) (progress_at c.pieces.progress name) use_of name c.pieces.made.items c.append_reference.new.made.items None =
-    subst (λ found. Finds (function_in (is_wide c.args.profile) name) (meaning name) (progress_at c.pieces.progress name) use_of name c.pieces.made.items c.append_reference.new.made.items found) c.in-None.is c.in_ok-append_reference-in-Name.ensures.ok in
+    let f : Finds (limit (is_wide c.args.profile)) (function_in (is_wide c.args.profile) name) (meaning name) (progress_at c.pieces.progress name) use_of name c.pieces.made.items c.append_reference.new.made.items None =
+    subst (λ found. Finds (limit (is_wide c.args.profile)) (function_in (is_wide c.args.profile) name) (meaning name) (progress_at c.pieces.progress name) use_of name c.pieces.made.items c.append_reference.new.made.items found) c.in-None.is c.in_ok-append_reference-in-Name.ensures.ok in
     reference_step wide meaning c.args.text.now (progress_at c.pieces.progress) (stack_of c.pieces.callers.items) c.pieces.made.items (left_shown c.pieces.left) c.pieces.invariant
     name use_of c.in-Name.after.now at f.0 c.append_reference.new.made.items f.1 f.2 f.3
 
@@ -57,8 +57,8 @@ pieces-smaller-in-Some c =
     let use_of = shown_use c.named.result.1 in
     let state = progress_at c.pieces.progress in
     let made = c.append_reference.new.made.items in
-    let f : Finds (function_in (is_wide c.args.profile) name) (meaning name) (state name) use_of name c.pieces.made.items made (Some (c.in-Some.name, c.in-Some.text)) =
-    subst (λ found. Finds (function_in (is_wide c.args.profile) name) (meaning name) (state name) use_of name c.pieces.made.items made found) c.in-Some.is c.in_ok-append_reference-in-Name.ensures.ok in
+    let f : Finds (limit (is_wide c.args.profile)) (function_in (is_wide c.args.profile) name) (meaning name) (state name) use_of name c.pieces.made.items made (Some (c.in-Some.name, c.in-Some.text)) =
+    subst (λ found. Finds (limit (is_wide c.args.profile)) (function_in (is_wide c.args.profile) name) (meaning name) (state name) use_of name c.pieces.made.items made found) c.in-Some.is c.in_ok-append_reference-in-Name.ensures.ok in
     let has = ap (λ n. in_force (ranks_at c.args.self.now.texts n)) f.0 ∙ defined_from (dynamic_value c.args.line.now name) (in_force (ranks_at c.args.self.now.texts name)) c.in-Some.text.now f.1 in
     let sets = progress-insert c.pieces.progress c.insert.new.self c.in-Some.name Opened c.in_ok-insert-in-Some.ensures.updates in
     let unseen_falls = unseen_cost-enter state (progress_at c.insert.new.self) c.in-Some.name.now c.in-Some.text.now (ap state f.0 ∙ f.2) sets c.args.self.now.texts has in
@@ -75,8 +75,8 @@ pieces-preserved-in-Some c =
     let state = progress_at c.pieces.progress in
     let made = c.append_reference.new.made.items in
     let left = at_piece (named c.in-Name.bytes.items) c.in-Name.after.now in
-    let f : Finds (function_in (is_wide c.args.profile) name) (meaning name) (state name) use_of name c.pieces.made.items made (Some (c.in-Some.name, c.in-Some.text)) =
-    subst (λ found. Finds (function_in (is_wide c.args.profile) name) (meaning name) (state name) use_of name c.pieces.made.items made found) c.in-Some.is c.in_ok-append_reference-in-Name.ensures.ok in
+    let f : Finds (limit (is_wide c.args.profile)) (function_in (is_wide c.args.profile) name) (meaning name) (state name) use_of name c.pieces.made.items made (Some (c.in-Some.name, c.in-Some.text)) =
+    subst (λ found. Finds (limit (is_wide c.args.profile)) (function_in (is_wide c.args.profile) name) (meaning name) (state name) use_of name c.pieces.made.items made found) c.in-Some.is c.in_ok-append_reference-in-Name.ensures.ok in
     let spelled : named c.in-Name.bytes.items ≡ reference c.in-Some.name.now use_of = ap named (sym c.deref.ensures.value) ∙ sym c.named.ensures ∙ ap (λ n. reference n use_of) (sym f.0) in
     let at : ahead wide left ≡ first (reference c.in-Some.name.now use_of) c.in-Name.after.now = ap (λ p. first p c.in-Name.after.now) spelled in
     let now : IsExpanding wide meaning c.args.text.now state (stack_of c.pieces.callers.items) c.pieces.made.items left =
@@ -148,8 +148,10 @@ returns-in_err-append-in-Some-Plain-default-clause-fault c =
     let after = c.in-Some-Plain-default.after.now in
     let at : ahead wide (left_shown c.pieces.left) ≡ first (plain bytes) after = ap (λ l. ahead wide (left_shown l)) c.in-Text.is ∙ sym c.in-Some-Plain-default.ensures.front ∙ ap (λ p. first (shown_piece p) after) c.in-Some-Plain-default.field-0-0-is in
     let p = err_from_is_err_and c.from_residual-in_err-append-in-Some-Plain-default.result c.from_residual-in_err-append-in-Some-Plain-default.ensures.1 in
+    let long = subst (λ most. IsTooLongAt most (length (c.pieces.made.items ++ bytes)) c.in_err-append-in-Some-Plain-default.field-0.0) c.most_bytes.ensures
+    c.in_err-append-in-Some-Plain-default.ensures.err in
     rw (p.1, p.2) (append_fault wide (meaning_of (ranks_at c.args.self.now.texts) c.args.line.now) c.args.text.now (progress_at c.pieces.progress) (stack_of c.pieces.callers.items) c.pieces.made.items (left_shown c.pieces.left) c.pieces.invariant
-    (plain bytes) after bytes at (λ all a. adds_bytes) _ c.in_err-append-in-Some-Plain-default.ensures.err)
+    (plain bytes) after bytes at (λ all a. adds_bytes) _ long)
 
 pub pieces-preserved-in-Some-Plain-default : goal.pieces-preserved-in-Some-Plain-default
 pieces-preserved-in-Some-Plain-default c =
@@ -159,7 +161,8 @@ pieces-preserved-in-Some-Plain-default c =
     let at : ahead wide (left_shown c.pieces.left) ≡ first (plain bytes) after = ap (λ l. ahead wide (left_shown l)) c.in-Text.is ∙ sym c.in-Some-Plain-default.ensures.front ∙ ap (λ p. first (shown_piece p) after) c.in-Some-Plain-default.field-0-0-is in
     let ok = c.in_ok-append-in-Some-Plain-default.ensures.ok in
     rw ok.0 (step wide (meaning_of (ranks_at c.args.self.now.texts) c.args.line.now) (progress_at c.pieces.progress) c.args.text.now (stack_of c.pieces.callers.items) c.pieces.made.items (left_shown c.pieces.left) c.pieces.invariant
-    (plain bytes) after bytes at (λ all a. adds_bytes) (rw ok.0 at ok.1))
+    (plain bytes) after bytes at (λ all a. adds_bytes)
+    (subst (λ most. length (c.pieces.made.items ++ bytes) ≤ most) c.most_bytes.ensures (rw ok.0 at ok.1)))
 
 pub returns-in-Some-Unclosed-default-clause-fault : goal.returns-in-Some-Unclosed-default-clause-fault
 returns-in-Some-Unclosed-default-clause-fault c =
@@ -219,8 +222,8 @@ pieces-preserved-in-None-2 c =
     let after = c.in-Some-Reference-default.after.now in
     let made = c.append_reference-in-Some-Reference-default.new.made.items in
     let at : ahead wide (left_shown c.pieces.left) ≡ first (reference name use_of) after = ap (λ l. ahead wide (left_shown l)) c.in-Text.is ∙ sym c.in-Some-Reference-default.ensures.front ∙ ap (λ p. first (shown_piece p) after) c.in-Some-Reference-default.field-0-0-is in
-    let f : Finds (function_in (is_wide c.args.profile) name) (meaning name) (progress_at c.pieces.progress name) use_of name c.pieces.made.items made None =
-    subst (λ found. Finds (function_in (is_wide c.args.profile) name) (meaning name) (progress_at c.pieces.progress name) use_of name c.pieces.made.items made found) c.in-None-2.is c.in_ok-append_reference-in-Some-Reference-default.ensures.ok in
+    let f : Finds (limit (is_wide c.args.profile)) (function_in (is_wide c.args.profile) name) (meaning name) (progress_at c.pieces.progress name) use_of name c.pieces.made.items made None =
+    subst (λ found. Finds (limit (is_wide c.args.profile)) (function_in (is_wide c.args.profile) name) (meaning name) (progress_at c.pieces.progress name) use_of name c.pieces.made.items made found) c.in-None-2.is c.in_ok-append_reference-in-Some-Reference-default.ensures.ok in
     reference_step wide meaning c.args.text.now (progress_at c.pieces.progress) (stack_of c.pieces.callers.items) c.pieces.made.items (left_shown c.pieces.left) c.pieces.invariant
     name use_of after at f.0 made f.1 f.2 f.3
 
@@ -231,8 +234,8 @@ pieces-smaller c =
     let use_of = shown_use c.in-Some-Reference-default.use_of in
     let state = progress_at c.pieces.progress in
     let made = c.append_reference-in-Some-Reference-default.new.made.items in
-    let f : Finds (function_in (is_wide c.args.profile) name) (meaning name) (state name) use_of name c.pieces.made.items made (Some (c.in-Some-2.name, c.in-Some-2.text)) =
-    subst (λ found. Finds (function_in (is_wide c.args.profile) name) (meaning name) (state name) use_of name c.pieces.made.items made found) c.in-Some-2.is c.in_ok-append_reference-in-Some-Reference-default.ensures.ok in
+    let f : Finds (limit (is_wide c.args.profile)) (function_in (is_wide c.args.profile) name) (meaning name) (state name) use_of name c.pieces.made.items made (Some (c.in-Some-2.name, c.in-Some-2.text)) =
+    subst (λ found. Finds (limit (is_wide c.args.profile)) (function_in (is_wide c.args.profile) name) (meaning name) (state name) use_of name c.pieces.made.items made found) c.in-Some-2.is c.in_ok-append_reference-in-Some-Reference-default.ensures.ok in
     let has = ap (λ n. in_force (ranks_at c.args.self.now.texts n)) f.0 ∙ defined_from (dynamic_value c.args.line.now name) (in_force (ranks_at c.args.self.now.texts name)) c.in-Some-2.text.now f.1 in
     let sets = progress-insert c.pieces.progress c.insert-in-Some-2.new.self c.in-Some-2.name Opened c.in_ok-insert-in-Some-2-2.ensures.updates in
     let unseen_falls = unseen_cost-enter state (progress_at c.insert-in-Some-2.new.self) c.in-Some-2.name.now c.in-Some-2.text.now (ap state f.0 ∙ f.2) sets c.args.self.now.texts has in
@@ -249,8 +252,8 @@ pieces-preserved c =
     let after = c.in-Some-Reference-default.after.now in
     let state = progress_at c.pieces.progress in
     let made = c.append_reference-in-Some-Reference-default.new.made.items in
-    let f : Finds (function_in (is_wide c.args.profile) name) (meaning name) (state name) use_of name c.pieces.made.items made (Some (c.in-Some-2.name, c.in-Some-2.text)) =
-    subst (λ found. Finds (function_in (is_wide c.args.profile) name) (meaning name) (state name) use_of name c.pieces.made.items made found) c.in-Some-2.is c.in_ok-append_reference-in-Some-Reference-default.ensures.ok in
+    let f : Finds (limit (is_wide c.args.profile)) (function_in (is_wide c.args.profile) name) (meaning name) (state name) use_of name c.pieces.made.items made (Some (c.in-Some-2.name, c.in-Some-2.text)) =
+    subst (λ found. Finds (limit (is_wide c.args.profile)) (function_in (is_wide c.args.profile) name) (meaning name) (state name) use_of name c.pieces.made.items made found) c.in-Some-2.is c.in_ok-append_reference-in-Some-Reference-default.ensures.ok in
     let at : ahead wide (at_text c.in-Text.rest.now) ≡ first (reference c.in-Some-2.name.now use_of) after =
     sym c.in-Some-Reference-default.ensures.front ∙ ap (λ p. first (shown_piece p) after) c.in-Some-Reference-default.field-0-0-is ∙ ap (λ n. first (reference n use_of) after) (sym f.0) in
     let now : IsExpanding wide meaning c.args.text.now state (stack_of c.pieces.callers.items) c.pieces.made.items (at_text c.in-Text.rest.now) =
@@ -268,8 +271,8 @@ pieces-smaller-then-is_own_value c =
     let use_of = shown_use c.in-Some-Reference-default.use_of in
     let state = progress_at c.pieces.progress in
     let made = c.append_reference-in-Some-Reference-default.new.made.items in
-    let f : Finds (function_in (is_wide c.args.profile) name) (meaning name) (state name) use_of name c.pieces.made.items made (Some (c.in-Some-2.name, c.in-Some-2.text)) =
-    subst (λ found. Finds (function_in (is_wide c.args.profile) name) (meaning name) (state name) use_of name c.pieces.made.items made found) c.in-Some-2.is c.in_ok-append_reference-in-Some-Reference-default.ensures.ok in
+    let f : Finds (limit (is_wide c.args.profile)) (function_in (is_wide c.args.profile) name) (meaning name) (state name) use_of name c.pieces.made.items made (Some (c.in-Some-2.name, c.in-Some-2.text)) =
+    subst (λ found. Finds (limit (is_wide c.args.profile)) (function_in (is_wide c.args.profile) name) (meaning name) (state name) use_of name c.pieces.made.items made found) c.in-Some-2.is c.in_ok-append_reference-in-Some-Reference-default.ensures.ok in
     let has = ap (λ n. in_force (ranks_at c.args.self.now.texts n)) f.0 ∙ defined_from (dynamic_value c.args.line.now name) (in_force (ranks_at c.args.self.now.texts name)) c.in-Some-2.text.now f.1 in
     let kept = c.in_ok-value-in-Some-2.value in
     let set = progress-insert c.pieces.progress c.insert-then-is_own_value.new.self c.in-Some-2.name (Known kept) c.in_ok-insert-in-Some-2.ensures.updates in
@@ -286,8 +289,8 @@ pieces-preserved-then-is_own_value c =
     let use_of = shown_use c.in-Some-Reference-default.use_of in
     let state = progress_at c.pieces.progress in
     let made = c.append_reference-in-Some-Reference-default.new.made.items in
-    let f : Finds (function_in (is_wide c.args.profile) name) (meaning name) (state name) use_of name c.pieces.made.items made (Some (c.in-Some-2.name, c.in-Some-2.text)) =
-    subst (λ found. Finds (function_in (is_wide c.args.profile) name) (meaning name) (state name) use_of name c.pieces.made.items made found) c.in-Some-2.is c.in_ok-append_reference-in-Some-Reference-default.ensures.ok in
+    let f : Finds (limit (is_wide c.args.profile)) (function_in (is_wide c.args.profile) name) (meaning name) (state name) use_of name c.pieces.made.items made (Some (c.in-Some-2.name, c.in-Some-2.text)) =
+    subst (λ found. Finds (limit (is_wide c.args.profile)) (function_in (is_wide c.args.profile) name) (meaning name) (state name) use_of name c.pieces.made.items made found) c.in-Some-2.is c.in_ok-append_reference-in-Some-Reference-default.ensures.ok in
     let now : IsExpanding wide meaning c.args.text.now state (stack_of c.pieces.callers.items) c.pieces.made.items (at_text c.in-Text.rest.now) =
     subst (λ l. IsExpanding wide meaning c.args.text.now state (stack_of c.pieces.callers.items) c.pieces.made.items (left_shown l)) c.in-Text.is c.pieces.invariant in
     let kept = c.in_ok-value-in-Some-2.value in

@@ -1,4 +1,5 @@
-use Rattle.std.proofs.Common.{◌∙◌, ap}
+use Rattle.std.proofs.Common.{◌≤◌, ◌∙◌, length, ap, subst}
+use Rattle.mk_macros.specs.Expansion.{limit}
 use Rattle.mk_macros.specs.Ranks.{defined_by}
 use Rattle.mk_macros.specs.Reference.{front}
 use Rattle.mk_macros.specs.Shown.{shown_piece}
@@ -15,7 +16,9 @@ loop-piece-preserved c =
     one_more (defined_by c.args.self.now) c.args.line.now c.args.text.now c.loop-piece.made.items c.loop-piece.rest.now c.in-Some.after.now
     c.in-Some-simple_piece.bytes.now c.append_within.new.made.items (shown_piece c.in-Some.piece)
     (c.in-Some.ensures.front ∙ ap (λ profile. front (is_wide profile) c.loop-piece.rest.now) c.profile-profile.ensures) c.in-Some-simple_piece.ensures
-    made_is within c.loop-piece.invariant
+    made_is
+    (subst (λ most. length c.append_within.new.made.items ≤ most) (c.most_bytes.ensures ∙ ap (λ profile. limit (is_wide profile)) c.profile-profile.ensures) within)
+    c.loop-piece.invariant
 
 pub returns : goal.returns
 returns c = no_more (defined_by c.args.self.now) c.args.line.now c.args.text.now c.loop-piece.made.items c.loop-piece.rest.now (c.in_default.ensures.front ∙ ap (λ profile. front (is_wide profile) c.loop-piece.rest.now) c.profile-profile.ensures) c.loop-piece.invariant
