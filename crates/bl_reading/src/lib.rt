@@ -6,6 +6,7 @@ mod fields;
 mod lines;
 mod reading;
 mod run;
+mod spans;
 
 pub use fault::{Fault, Refusal};
 pub use lines::read_log;

@@ -5,7 +5,6 @@ ghost use Rattle.std.specs.Prelude.{◌≡◌, ◌<◌, ◌≤◌, IfOk, IfSome,
 use crate::fault::Fault;
 use crate::fields::{decoded, list, number, number_if_there, outcome, text};
 use crate::run::{Commit, End, Ended, Recipe, Run};
-use bl_log::Span;
 use mk_graph::Edges;
 use mk_names::Names;
 use serde_json::Value;
@@ -15,9 +14,9 @@ const VERSION: u64 = 1;
 
 /// What of a name came last, counted from 1; 0 where nothing did.
 #[derive(Clone, Copy)]
-struct Last {
+pub(crate) struct Last {
     recipe: u32,
-    judged: u32,
+    pub(crate) judged: u32,
 }
 
 /// What the lines of a run have told so far.
@@ -27,14 +26,14 @@ pub struct Reading {
     workers: u64,
     names: Names,
     /// By the numbers of names.
-    last: Vec<Last>,
-    recipes: Vec<Recipe>,
+    pub(crate) last: Vec<Last>,
+    pub(crate) recipes: Vec<Recipe>,
     /// What a target is made of, by numbers of names: a row for each that was judged.
-    made_of: Edges,
+    pub(crate) made_of: Edges,
     commits: Vec<Commit>,
     up_to_date: u64,
     end: Option<End>,
-    time: u64,
+    pub(crate) time: u64,
 }
 
 impl Drop for Reading {
@@ -221,7 +220,7 @@ impl Reading {
     }
 
     /// The recipe of a name that began last.
-    fn recipe_of(&self, name: u32) -> Option<usize> {
+    pub(crate) fn recipe_of(&self, name: u32) -> Option<usize> {
         let last = self.last.get(name as usize)?;
         (last.recipe as usize).checked_sub(1)
     }
@@ -307,59 +306,6 @@ impl Reading {
             time,
             cut_off,
         })
-    }
-
-    /// From when to when each recipe ran.
-    fn spans(&self, alloc: Global) -> Result<Vec<Span>, Fault>
-        ensures { IfOk result (λ spans. vec_len spans ≡ vec_len self.now.recipes) }
-    {
-        let mut spans = Vec::with_capacity(alloc, self.recipes.len())?;
-        for recipe in &self.recipes {
-            let end = match recipe.ended {
-                Some(ended) => ended.time,
-                None => self.time,
-            };
-            let Some(span) = Span::of(recipe.begin, end) else {
-                return Err(Fault::TimeGoesBack);
-            };
-            spans.push(span)?;
-        }
-        Ok(spans)
-    }
-
-    /// Of each recipe those of what its target is made of.
-    fn rows(&self, alloc: Global) -> Result<Edges, Fault>
-        ensures { IfOk result (λ rows. length rows ≡ vec_len self.now.recipes) }
-    {
-        let mut rows = Edges::with_capacity(alloc, self.recipes.len())?;
-        for recipe in &self.recipes {
-            let row = self.row(alloc, recipe.target)?;
-            rows.push_row(row.as_slice())?;
-        }
-        Ok(rows)
-    }
-
-    fn row(&self, alloc: Global, target: u32) -> Result<Vec<u32>, AllocError> {
-        let mut row = Vec::new(alloc);
-        for name in self.names_of(target) {
-            if let Some(recipe) = self.recipe_of(*name) {
-                if let Ok(recipe) = u32::try_from(recipe) {
-                    row.push(recipe)?;
-                }
-            }
-        }
-        Ok(row)
-    }
-
-    /// The names that a target is made of, where it was judged.
-    fn names_of(&self, target: u32) -> &[u32] {
-        let Some(last) = self.last.get(target as usize) else {
-            return &[];
-        };
-        match (last.judged as usize).checked_sub(1) {
-            Some(judged) if judged < self.made_of.len() => self.made_of.row(judged),
-            _ => &[],
-        }
     }
 }
 

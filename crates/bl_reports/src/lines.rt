@@ -22,7 +22,9 @@ pub fn stats(alloc: Global, run: &Run) -> Result<Vec<u8>, AllocError> {
     let mut text = Vec::new(alloc);
     add_head(alloc, &mut text, run)?;
     add_times(alloc, &mut text, run)?;
-    add_commits(alloc, &mut text, run)?;
+    if !run.commits.is_empty() {
+        add_commits(alloc, &mut text, run)?;
+    }
     add_path(alloc, &mut text, run, &path)?;
     Ok(text)
 }
