@@ -3,6 +3,8 @@
 
 mod asking;
 mod levels;
+mod look;
+mod looking;
 mod options_again;
 mod shell_asked;
 

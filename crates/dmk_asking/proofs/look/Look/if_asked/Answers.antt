@@ -1,7 +1,7 @@
 use Rattle.std.proofs.Common.{codes}
 use Rattle.dmk_reading.specs.Keeping.{value_in}
 use Rattle.dmk_asking.proofs.ModeLemmas.{looks}
-use Rattle.dmk_asking.proofs.asking.Look.if_asked.Goals as goal
+use Rattle.dmk_asking.proofs.look.Look.if_asked.Goals as goal
 
 pub of-requires : goal.of-requires
 of-requires c =
