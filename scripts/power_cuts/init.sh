@@ -1,5 +1,5 @@
 #!/bin/busybox sh
-# The first program of the virtual machine of power_cuts.py. The kernel's line has mode=, tools=, pause=, expire=. Each tool has a
+# The first program of the virtual machine of power_cuts.py. The kernel's line has mode=, tools=, pause=, expire=, profile=. Each tool has a
 # disk of its own, with a tree; mode 'judge' has one more, for its answers.
 /bin/busybox mkdir -p /proc /sys /dev /d /r /tmp /usr
 /bin/busybox --install -s /bin
@@ -7,9 +7,10 @@ mount -t proc proc /proc
 mount -t sysfs sys /sys
 mount -t devtmpfs dev /dev
 for word in $(cat /proc/cmdline); do
-    case $word in mode=* | tools=* | pause=* | expire=*) eval "$word" ;; esac
+    case $word in mode=* | tools=* | pause=* | expire=* | profile=*) eval "$word" ;; esac
 done
 export PAUSE=$pause
+[ "$profile" = strict ] || export DMK_PROFILE=$profile
 # Without a status line, behind which what is said here wouldn't stand in a line of its own.
 export TERM=dumb
 echo "$expire" >/proc/sys/vm/dirty_expire_centisecs

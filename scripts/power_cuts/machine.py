@@ -118,7 +118,8 @@ class Machines:
         """Starts a machine with a disk for each tool, and behind them one for answers where it judges."""
         words = [self.args.linux, f"mem={self.args.memory}M", f"umid=cut{os.getpid()}-{next(self.numbers)}", f"uml_dir={self.work}/uml/",
                  f"initrd={self.work}/initramfs", "quiet", "con=null", "con0=null,fd:1", "ssl=null", f"mode={mode}",
-                 f"tools={','.join(tools)}", f"pause={pause}", f"expire={self.args.expire}"]
+                 f"tools={','.join(tools)}", f"pause={pause}", f"expire={self.args.expire}",
+                 f"profile={self.args.profile}"]
         words += [f"ubd{letter}={file}" for letter, file in zip("abcdefg", disks)]
         words += [f"ubdhrc={self.compiler}"] if self.compiler else []
         return subprocess.Popen(words, stdin=subprocess.DEVNULL, stdout=subprocess.PIPE, stderr=subprocess.STDOUT, text=True,

@@ -3,7 +3,8 @@
 looks at which targets each tool takes as up to date, and whether these have their right contents. A cut is wrong for a tool where
 a target that isn't in its dry run hasn't its contents.
 
-  power_cuts.py --work FOLDER --linux LINUX --dmk DMK [--tree NAME] [--tools LIST] [--expire N] [--first N] [--cuts N] [--at-once N]
+  power_cuts.py --work FOLDER --linux LINUX --dmk DMK [--tree NAME] [--tools LIST] [--profile NAME] [--expire N] [--first N]
+                [--cuts N] [--at-once N]
   power_cuts.py --summary TABLE..
 
 The machine is user-mode Linux (LINUX, such as Debian's linux.uml), one for each build. A cut is SIGKILL of it: what it had sent to
@@ -256,6 +257,7 @@ def main():
                         " compiles in the machine")
     parser.add_argument("--memory", type=at_least_one, default=192, help="of a machine, in MiB")
     parser.add_argument("--tools", default="dmk,make,ninja,dmk-unsynced-targets", help="of " + ",".join(TOOLS))
+    parser.add_argument("--profile", choices=("strict", "posix"), default="strict", help="of dmk, by DMK_PROFILE")
     parser.add_argument("--first", type=int, default=1)
     parser.add_argument("--cuts", type=at_least_one, default=100)
     parser.add_argument("--at-once", type=at_least_one, default=1)
