@@ -59,6 +59,7 @@ if [ "$failed" -eq 0 ]; then
     run_part python3 scripts/random_turns.py crates/dmk/out/dmk 1 4
     run_part python3 scripts/tools.py
     run_part python3 scripts/build_log.py
+    run_part python3 scripts/timeline_page.py
     run_part python3 scripts/refused_growths.py
     run_part bash scripts/guarantees.sh
     run_part bash scripts/assumptions.sh
