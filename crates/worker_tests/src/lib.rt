@@ -16,6 +16,8 @@ mod fake;
 #[cfg(test)]
 mod lines;
 #[cfg(test)]
+mod long_texts;
+#[cfg(test)]
 mod pool;
 #[cfg(test)]
 mod refused;
