@@ -23,7 +23,7 @@ use Rattle.mk_taken.specs.Place.{Place, Other, recipe, includes, searches, loads
 use Rattle.mk_taken.specs.Reading.{behind, with_nest, with_table, at_end, Where, Then, unchanged, no_statement, Tests, Turns, Directs, Defines, Says, Plays, Takes, Reads}
 use Rattle.mk_taken.proofs.ListedLemmas.{IsListed, AreListed, takes_listed}
 
-abbrev Once : {A : Type 0} → (A → Type 0) → Type 0
+abbrev pub Once : {A : Type 0} → (A → Type 0) → Type 0
 Once {A} P = (a b : A) → P a → P b → a ≡ b
 
 where_once : (counts : Bool) (place : Place) (Counts : Step → Type 0) → Once Counts → Once (Where counts place Counts)
@@ -91,19 +91,22 @@ module _ (w : Answers) (once : (v : Variables) (text : List ℕ) → Once (Expan
   plays_once place number passed_over a b x y = x ∙ sym y
   plays_once place number (says said) a b x y = says_once place number said a b x y
 
+  pub takes_once : (place : Place) (s : Stated) → Once (Takes w place s)
+  takes_once place s a b x y = plays_once place s.line (role_in place.rule s.meaning) a b x y
+
   pub reads_once : (left : List Stated) (place : Place) → Once (Reads w left place)
   reads_once [] place a b x y = x ∙ sym y
   reads_once (s ∷ more) place a b x y =
       then_once s.line more (Reads w more) (reads_once more) x.0 a b x.2
-      (subst (λ step. Then s.line more (Reads w more) step b) (plays_once place s.line (role_in place.rule s.meaning) y.0 x.0 y.1 x.1) y.2)
+      (subst (λ step. Then s.line more (Reads w more) step b) (takes_once place s y.0 x.0 y.1 x.1) y.2)
 
 -- the variables of the place behind a step are listed
-abbrev LeavesListed : Step → Type 0
+abbrev pub LeavesListed : Step → Type 0
 LeavesListed (goes_on place) = IsListed place.table
-LeavesListed (hands place other) = Unit {0}
+LeavesListed (hands place other) = IsListed place.table
 LeavesListed (refuses why) = Unit {0}
 
-abbrev Some_step : (Step → Type 0) → Type 0
+abbrev pub Some_step : (Step → Type 0) → Type 0
 Some_step P = (step : Step) × P step × LeavesListed step
 
 where_some : (counts : Bool) (place : Place) (Counts : Step → Type 0) → IsListed place.table → Some_step Counts → Some_step (Where counts place Counts)
@@ -152,8 +155,8 @@ module _ (w : Answers) (some : (l : Listed) (text : List ℕ) → (o : values.Ou
         let now = table_some l said lines in
         (with_table (behind Here to) now.0, (now.0, now.1, refl), table_listed (behind Here to) now.0 (takes_listed w l said lines now.0 now.1))
 
-    hands_some : (place : Place) (other : Other) → Some_step (λ it. it ≡ hands place other)
-    hands_some place other = (hands place other, refl, tt)
+    hands_some : (place : Place) (other : Other) → IsListed place.table → Some_step (λ it. it ≡ hands place other)
+    hands_some place other listed = (hands place other, refl, listed)
 
     says_some : (number : ℕ) (said : told.Told) → Some_step (Says w Here number said)
     says_some number told.nothing = (goes_on Here, refl, (l, refl))
@@ -165,23 +168,26 @@ module _ (w : Answers) (some : (l : Listed) (text : List ℕ) → (o : values.Ou
         (defines_some (told.define modifiers d body text_behind) (variables.begins modifiers d) body)
     says_some number (told.includes required names) =
         where_some (active nest) Here (λ it. it ≡ hands (behind Here (told.includes required names)) (includes required names)) (l, refl)
-        (hands_some (behind Here (told.includes required names)) (includes required names))
+        (hands_some (behind Here (told.includes required names)) (includes required names) (l, refl))
     says_some number (told.searches text) =
         where_some (active nest) Here (λ it. it ≡ hands (behind Here (told.searches text)) (searches text)) (l, refl)
-        (hands_some (behind Here (told.searches text)) (searches text))
+        (hands_some (behind Here (told.searches text)) (searches text) (l, refl))
     says_some number (told.loads required names) =
         where_some (active nest) Here (λ it. it ≡ hands (behind Here (told.loads required names)) (loads required names)) (l, refl)
-        (hands_some (behind Here (told.loads required names)) (loads required names))
+        (hands_some (behind Here (told.loads required names)) (loads required names) (l, refl))
     says_some number (told.expands text after) =
         where_some (active nest) Here (λ it. it ≡ hands (behind Here (told.expands text after)) (expands text after)) (l, refl)
-        (hands_some (behind Here (told.expands text after)) (expands text after))
+        (hands_some (behind Here (told.expands text after)) (expands text after) (l, refl))
     says_some number (told.refused fault) = where_some (active nest) Here (λ it. it ≡ refuses (line fault)) (l, refl) (refuses (line fault), refl, tt)
 
     plays_some : (number : ℕ) (role : Role) → Some_step (Plays w Here number role)
     plays_some number (recipe_line text) =
-        where_some (active nest) Here (λ it. it ≡ hands Here (recipe text)) (l, refl) (hands_some Here (recipe text))
+        where_some (active nest) Here (λ it. it ≡ hands Here (recipe text)) (l, refl) (hands_some Here (recipe text) (l, refl))
     plays_some number passed_over = (goes_on Here, refl, (l, refl))
     plays_some number (says said) = says_some number said
+
+  pub takes_some : (l : Listed) (nest : List Branch) (rule : Rule) (s : Stated) → Some_step (Takes w (record { table = table_of l; nest = nest; rule = rule }) s)
+  takes_some l nest rule s = plays_some l nest rule s.line (role_in rule s.meaning)
 
   abbrev Has : List Stated → Type 0
   Has left = (l : Listed) (nest : List Branch) (rule : Rule) → (o : Outcome) × Reads w left (record { table = table_of l; nest = nest; rule = rule }) o
@@ -196,6 +202,6 @@ module _ (w : Answers) (some : (l : Listed) (text : List ℕ) → (o : values.Ou
   pub reads_some : (left : List Stated) → Has left
   reads_some [] l nest rule = (at_end (record { table = table_of l; nest = nest; rule = rule }) (missing nest), refl)
   reads_some (s ∷ more) l nest rule =
-      let step = plays_some l nest rule s.line (role_in rule s.meaning) in
+      let step = takes_some l nest rule s in
       let rest = then_some s.line more (reads_some more) step.0 step.2 in
       (rest.0, (step.0, step.1, rest.1))

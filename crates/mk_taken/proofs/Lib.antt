@@ -1,3 +1,3 @@
-mod LawLemmas
-mod ListedLemmas
-mod ReadingLemmas
+pub mod LawLemmas
+pub mod ListedLemmas
+pub mod ReadingLemmas

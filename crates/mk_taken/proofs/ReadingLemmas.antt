@@ -1,5 +1,5 @@
 -- The calls of the code are steps of the reading.
-use Rattle.std.proofs.Common.{◌≡◌, ℕ, zero, suc, ◌+◌, Bool, List, [], ◌∷◌, drop, map, Option, Some, Result, Err, refl, sym, ap, ◌∙◌, subst, arith}
+use Rattle.std.proofs.Common.{◌≡◌, ◌<◌, length, ℕ, zero, suc, ◌+◌, Bool, List, [], ◌∷◌, drop, map, Option, Some, Result, Err, refl, sym, ap, ◌∙◌, subst, arith}
 use Rattle.mk_conditionals.specs.Lines as conditionals
 use Rattle.mk_conditionals.specs.Machine.{placed, Answered}
 use Rattle.mk_conditionals.specs.Nest.{wants_test, turned_if}
@@ -84,6 +84,12 @@ behind-drop : {A : Type 0} (n : ℕ) (xs ys : List A) (x : A) → drop n xs ≡ 
 behind-drop zero xs ys x is = ap (drop 1) is
 behind-drop (suc n) [] ys x is = absurd (cc is)
 behind-drop (suc n) (y ∷ xs) ys x is = behind-drop n xs ys x is
+
+-- and are fewer than all
+pub fewer_behind : {A : Type 0} (n : ℕ) (xs ys : List A) (x : A) → drop n xs ≡ x ∷ ys → length ys < length xs
+fewer_behind zero xs ys x is = let count : length xs ≡ length (x ∷ ys) = ap length is in omega arith
+fewer_behind (suc n) [] ys x is = absurd (cc is)
+fewer_behind (suc n) (y ∷ xs) ys x is = let fewer : length ys < length xs = fewer_behind n xs ys x is in omega arith
 
 -- the lines behind a place are those behind the line that stands there
 pub behind_place : {A : Type 0} (n : ℕ) (xs ys : List A) (x : A) → drop n xs ≡ x ∷ ys → drop (n + 1) xs ≡ ys

@@ -1,5 +1,5 @@
 -- The crate's own values as the definitions see them.
-use Rattle.std.specs.Prelude.{Option, Some, None, Ok, Err, map, option_copied}
+use Rattle.std.specs.Prelude.{ℕ, ◌<◌, length, Option, Some, None, Ok, Err, map, option_copied}
 use Rattle.mk_conditionals.specs.Lines as conditionals
 use Rattle.mk_functions.specs.Shown.{fault_of}
 use Rattle.mk_functions.specs.declared.fault.Stop.TheVariants as stop
@@ -41,6 +41,11 @@ step_of place (Some it) = hands place (other_by it)
 abbrev pub outcome_of : Place → code_reached.Reached → Outcome
 outcome_of place reached.End = ends place
 outcome_of place (reached.Other number it left) = reaches place number (other_by it) (map stated left.now)
+
+-- fewer than so many statements are left
+abbrev pub LeavesFewer : (count : ℕ) → code_reached.Reached → Type 0
+LeavesFewer count reached.End = Unit {0}
+LeavesFewer count (reached.Other number it left) = length left.now < count
 
 -- why there is no answer, as what is told of the test, or something that says nothing of it
 abbrev pub Unanswered : (Tells : NoAnswer → Type 0) → code_answer.NoAnswer → Type 0

@@ -9,7 +9,7 @@ ghost use Rattle.mk_statements.specs.declared.course.Rule.TheVariants.{Closed};
 ghost use Rattle.mk_variables.specs.Table.{Table, table_of};
 ghost use Rattle.mk_taken.specs.Place.{goes_on, hands, refuses};
 ghost use Rattle.mk_taken.specs.Reading.{behind, Defines, Where, Says, Takes, Reads};
-ghost use Rattle.mk_taken.specs.Shown.{place_of, other_by, step_of, outcome_of, Stops, IsRefused};
+ghost use Rattle.mk_taken.specs.Shown.{place_of, other_by, step_of, outcome_of, LeavesFewer, Stops, IsRefused};
 
 use crate::directives::turn;
 use crate::fault::{Refused, Why};
@@ -34,9 +34,11 @@ impl Drop for Reading {
 }
 
 /// The line at this place, and those behind it.
+#[tactic(auto, using(crate::proofs::ReadingLemmas::fewer_behind))]
 fn line_at<'a>(lines: &'a [Line<'a>], place: usize) -> Option<(&'a Line<'a>, &'a [Line<'a>])>
     ensures line { MatchOption result (drop place lines.now ≡ []) (λ found. drop place lines.now ≡ found.0.now ∷ found.1.now) }
     ensures within { IfSome result (λ _. place < length lines.now) }
+    ensures fewer { IfSome result (λ found. length found.1.now < length lines.now) }
 {
     let left = lines.get(place..)?;
     left.split_first()
@@ -220,6 +222,7 @@ impl Reading {
             (outcome_of (place_of (table_of table.new) self.new) reached)) }
         ensures refused { (w : Answers) → O.allows outside.new w
             → IfErr result (IsRefused (Reads w (map stated lines.now) (place_of (table_of table.old) self.old))) }
+        ensures fewer { IfOk result (LeavesFewer (length lines.now)) }
         ensures narrows { (w : Answers) → O.allows outside.new w → O.allows outside.old w }
     {
         let mut place: usize = 0;
