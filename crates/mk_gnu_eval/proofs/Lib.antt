@@ -1,0 +1,3 @@
+mod LawLemmas
+mod ReadingLemmas
+mod TextLemmas
