@@ -1,5 +1,6 @@
 //! What texts come to, with the variables and the world outside of a row.
 use crate::arguments::{add, argument, number_fault};
+use crate::makefiles::Contents;
 use crate::outside::{Answer, Told, question_of};
 use crate::variables::{flavor_of, origin_of};
 use mk_functions::{Fault, Origin, Stop, expand};
@@ -13,6 +14,7 @@ use std::alloc::{AllocError, Global};
 pub(crate) struct Setting {
     pub(crate) table: Table,
     pub(crate) outside: Told,
+    pub(crate) contents: Contents,
     /// The recipes of the text that was read last, each line with a newline.
     pub(crate) recipes: Vec<u8>,
 }
@@ -52,6 +54,9 @@ impl Setting {
                 answers: Vec::new(alloc),
                 said: String::new(alloc),
             },
+            contents: Contents {
+                files: Vec::new(alloc),
+            },
             recipes: Vec::new(alloc),
         }
     }
@@ -66,8 +71,17 @@ impl Setting {
         )
     }
 
-    /// Takes a line: ORIGIN NAME = TEXT, with `:=` for a simple variable, QUESTION TEXT = ANSWER, or `environment-first`, in front
-    /// of all others. Whether it is one.
+    fn hold_content(&mut self, alloc: Global, line: Line<'_>) -> Answered {
+        if line.sign != "=" {
+            return Err(RowFault::Word);
+        }
+        let name = argument(alloc, line.name)?;
+        let text = argument(alloc, line.text)?;
+        self.hold(name, text)
+    }
+
+    /// Takes a line: ORIGIN NAME = TEXT, with `:=` for a simple variable, QUESTION TEXT = ANSWER, `content NAME = TEXT` of a file
+    /// that may be included, or `environment-first`, in front of all others. Whether it is one.
     pub(crate) fn takes(&mut self, alloc: Global, line: &str) -> Result<bool, RowFault> {
         if line == "environment-first" {
             self.table = Table::new(alloc, true);
@@ -81,6 +95,10 @@ impl Setting {
         }
         if let Some(origin) = origin_of(word) {
             self.define(alloc, origin, line)?;
+            return Ok(true);
+        }
+        if word == "content" {
+            self.hold_content(alloc, line)?;
             return Ok(true);
         }
         let Some(question) = question_of(word) else {

@@ -132,6 +132,7 @@ impl Functions {
             "statements" => say_statements(alloc, text, out),
             "take" => self.setting.say_taken(alloc, text, b"", out),
             "read" => self.setting.say_read(alloc, text, out),
+            "makefile" => self.setting.say_makefile(alloc, text, out),
             "line" => self.setting.say_line(alloc, text, None, out),
             "argument" => self.setting.say_given(alloc, text, out),
             "environment" => self.setting.say_environment(alloc, text, out),

@@ -10,6 +10,7 @@ mod conditionals;
 mod depfiles;
 mod expansions;
 mod functions;
+mod makefiles;
 mod outside;
 mod readings;
 mod statements;

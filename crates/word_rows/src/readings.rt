@@ -28,7 +28,7 @@ fn say_why(out: &mut String, why: Why) -> Result<(), AllocError> {
     }
 }
 
-fn say_refused(out: &mut String, refused: Refused) -> Result<(), AllocError> {
+pub(crate) fn say_refused(out: &mut String, refused: Refused) -> Result<(), AllocError> {
     match refused {
         Refused::At(line, why) => {
             write!(out, "{line}:")?;

@@ -46,7 +46,7 @@ fn say_targets(alloc: Global, out: &mut String, targets: &ByteStrings) -> Result
     Ok(())
 }
 
-fn say_definition(
+pub(crate) fn say_definition(
     alloc: Global,
     out: &mut String,
     definition: &TargetDefinition,
@@ -80,7 +80,7 @@ fn colon_of(rule: &Rule) -> &'static str {
     }
 }
 
-fn say_rule(alloc: Global, out: &mut String, rule: &Rule) -> Result<(), AllocError> {
+pub(crate) fn say_rule(alloc: Global, out: &mut String, rule: &Rule) -> Result<(), AllocError> {
     say_targets(alloc, out, &rule.targets)?;
     say_word(out, colon_of(rule))?;
     if let Some(pattern) = &rule.pattern {
@@ -106,7 +106,7 @@ fn say_came(alloc: Global, out: &mut String, came: &Came) -> Result<(), AllocErr
     }
 }
 
-fn say_refusal(out: &mut String, refusal: Refusal) -> Result<(), AllocError> {
+pub(crate) fn say_refusal(out: &mut String, refusal: Refusal) -> Result<(), AllocError> {
     match refusal {
         Refusal::Stop(stop) => say_stop(out, stop),
         Refusal::Fault(fault) => out.push_str(text_of(fault)),
