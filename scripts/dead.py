@@ -33,6 +33,9 @@ WAITING_EXPORTS = {
     "mk_conditionals": {"Reading"},
     "mk_eval": {"MAX_INCLUDE_DEPTH"},
     "mk_functions": {"MAX_CALLS", "MAX_PIECES", "MAX_VALUE"},
+    # What reads GNU makefiles is to name these next.
+    "mk_gnu_eval": {"MAX_INCLUDE_DEPTH", "Progress"},
+    "mk_gnu_items": {"Cause", "Oddity", "Refusal", "Refused", "items_of"},
     "mk_graph": {"distinct_names", "whole_plan"},
     "mk_macros": {"FUNCTIONS"},
     "mk_recipe": {"LineStatus", "Look", "Mark", "Prerequisite", "Told", "Verdict", "outcome"},
